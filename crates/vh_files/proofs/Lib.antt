@@ -1,0 +1,3 @@
+pub mod ShelfLemmas
+pub mod Loops
+pub mod Untold

@@ -1,0 +1,17 @@
+-- Why a call on the outside failed.
+use Rattle.std.specs.Prelude.{◌≡◌, ℕ, ◌+◌, ◌-◌, ◌^◌, ◌≤◌, min, Result, OnErr, IsErr, ◌⊎◌}
+
+-- A count of faults that stood at `before` has risen: it is higher, or stands at its type's end.
+abbrev pub Rose : ℕ → ℕ → Type 0
+Rose before now = min (before + 1) (2 ^ 64 - 1) ≤ now
+
+-- The count never falls, and rose where the call failed.
+pub record HasCause {T E : Type 0} (before now : ℕ) (result : Result T E) : Type 0 where
+  pub later : before ≤ now
+  pub failed : OnErr result (Rose before now)
+
+-- The same of a call on a name that a complete store may lack: there it fails and raises no count.
+pub record HasCauseOrLacks {T E : Type 0} (lacks : Type 0) (before now : ℕ) (result : Result T E) : Type 0 where
+  pub later : before ≤ now
+  pub failed : OnErr result (lacks ⊎ Rose before now)
+  pub lacking : lacks → now ≡ before

@@ -1,0 +1,6 @@
+pub mod Causes
+pub mod Store
+pub mod Due
+pub mod Fields
+pub mod MemFiles
+pub mod Shelf
