@@ -1,3 +1,4 @@
 pub mod ShelfLemmas
 pub mod Loops
 pub mod Untold
+pub mod Chains

@@ -1,5 +1,5 @@
 -- Why a call on the outside failed.
-use Rattle.std.specs.Prelude.{◌≡◌, ℕ, ◌+◌, ◌-◌, ◌^◌, ◌≤◌, min, Result, OnErr, IsErr, ◌⊎◌}
+use Rattle.std.specs.Prelude.{◌≡◌, ℕ, ◌+◌, ◌-◌, ◌^◌, ◌≤◌, min, Bool, Result, OnErr, IsErr, ◌⊎◌}
 
 -- A count of faults that stood at `before` has risen: it is higher, or stands at its type's end.
 abbrev pub Rose : ℕ → ℕ → Type 0
@@ -15,3 +15,11 @@ pub record HasCauseOrLacks {T E : Type 0} (lacks : Type 0) (before now : ℕ) (r
   pub later : before ≤ now
   pub failed : OnErr result (lacks ⊎ Rose before now)
   pub lacking : lacks → now ≡ before
+
+-- a store was only read: its files, whether it is complete and its count of faults of writing are as
+-- before, and its count of faults of reading hasn't fallen
+pub record OnlyRead {Files : Type 0} (files files_now : Files) (told told_now : Bool) (writing writing_now reading reading_now : ℕ) : Type 0 where
+  pub held : files_now ≡ files
+  pub complete : told_now ≡ told
+  pub writes : writing_now ≡ writing
+  pub later : reading ≤ reading_now

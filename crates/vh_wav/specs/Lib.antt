@@ -1,0 +1,4 @@
+pub mod Chunks
+pub mod Judged
+pub mod Samples
+pub mod Heads

@@ -1,0 +1,23 @@
+-- Samples in a WAV file.
+use Rattle.std.specs.Prelude.{◌≡◌, ℕ, suc, ◌+◌, ◌*◌, ◌-◌, ◌/◌, ◌^◌, ◌<◌, nat_lt, ◌==◌, List, ℤ, pos, negsuc, ◌*ℤ◌, if◌then◌else◌, slice_index_or}
+use Rattle.vh_files.specs.Fields.{field_at}
+use Rattle.vh_wav.specs.declared.head.Head.{Head}
+
+-- the number that m stands for as so many bits in two's complement
+abbrev pub signed : ℕ → ℕ → ℤ
+signed bits m = if nat_lt m (2 ^ (bits - 1)) then pos m else negsuc (2 ^ bits - suc m)
+
+-- the sample at a place, in units of 2^-23 of full scale
+abbrev pub sample_at : ℕ → List ℕ → ℕ → ℤ
+sample_at bits bytes at = if bits == 16 then signed 16 (field_at bytes at 2) *ℤ pos 256 else signed 24 (field_at bytes at 3)
+
+-- a channel's sample in a frame of the file, and zero past its end
+abbrev pub sample_in : List ℕ → Head → ℕ → ℕ → ℤ
+sample_in bytes head channel frame =
+    let width = head.bits / 8 in
+    if nat_lt frame head.frames then sample_at head.bits bytes (head.at + (frame * (head.channels * width) + channel * width)) else pos 0
+
+-- the n samples of each channel from this frame on stand in the list, channel after channel
+abbrev pub HoldsFrames : List ℕ → Head → ℕ → ℕ → List ℤ → Type 0
+HoldsFrames bytes head from n out =
+    (channel i : ℕ) → channel < head.channels → i < n → slice_index_or out (channel * n + i) (pos 0) ≡ sample_in bytes head channel (from + i)
