@@ -2,3 +2,4 @@ pub mod Chunks
 pub mod Judged
 pub mod Samples
 pub mod Heads
+pub mod Text

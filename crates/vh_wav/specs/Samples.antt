@@ -1,7 +1,8 @@
 -- Samples in a WAV file.
-use Rattle.std.specs.Prelude.{◌≡◌, ℕ, suc, ◌+◌, ◌*◌, ◌-◌, ◌/◌, ◌^◌, ◌<◌, nat_lt, ◌==◌, List, ℤ, pos, negsuc, ◌*ℤ◌, if◌then◌else◌, slice_index_or}
+use Rattle.std.specs.Prelude.{◌≡◌, ℕ, suc, ◌+◌, ◌*◌, ◌-◌, ◌/◌, ◌^◌, ◌<◌, nat_lt, nat_le, ◌&&◌, ◌==◌, List, length, ℤ, pos, negsuc, ◌*ℤ◌, if◌then◌else◌, slice_index_or}
 use Rattle.vh_files.specs.Fields.{field_at}
 use Rattle.vh_wav.specs.declared.head.Head.{Head}
+use Rattle.vh_wav.specs.Judged.{align_of}
 
 -- the number that m stands for as so many bits in two's complement
 abbrev pub signed : ℕ → ℕ → ℤ
@@ -11,11 +12,12 @@ signed bits m = if nat_lt m (2 ^ (bits - 1)) then pos m else negsuc (2 ^ bits - 
 abbrev pub sample_at : ℕ → List ℕ → ℕ → ℤ
 sample_at bits bytes at = if bits == 16 then signed 16 (field_at bytes at 2) *ℤ pos 256 else signed 24 (field_at bytes at 3)
 
--- a channel's sample in a frame of the file, and zero past its end
+-- a channel's sample in a frame of the file, and zero past the frames that are there
 abbrev pub sample_in : List ℕ → Head → ℕ → ℕ → ℤ
 sample_in bytes head channel frame =
-    let width = head.bits / 8 in
-    if nat_lt frame head.frames then sample_at head.bits bytes (head.at + (frame * (head.channels * width) + channel * width)) else pos 0
+    let align = align_of head.channels head.bits in
+    if nat_lt frame head.frames && nat_le (head.at + (frame + 1) * align) (length bytes)
+    then sample_at head.bits bytes (head.at + (frame * align + channel * (head.bits / 8))) else pos 0
 
 -- the n samples of each channel from this frame on stand in the list, channel after channel
 abbrev pub HoldsFrames : List ℕ → Head → ℕ → ℕ → List ℤ → Type 0

@@ -2,6 +2,9 @@
 #![tactic(auto)]
 
 mod chunk;
+mod frames;
 mod head;
+mod text;
 
 pub use head::{Head, HeadRefused, WavFault, read_head};
+pub use text::{frame_bytes, head_bytes};
