@@ -1,3 +1,5 @@
 pub mod Windows
 pub mod Walk
 pub mod Grow
+pub mod Whole
+pub mod Channels

@@ -1,5 +1,5 @@
 -- Samples in a WAV file.
-use Rattle.std.specs.Prelude.{◌≡◌, ℕ, suc, ◌+◌, ◌*◌, ◌-◌, ◌/◌, ◌^◌, ◌<◌, nat_lt, nat_le, ◌&&◌, ◌==◌, List, length, ℤ, pos, negsuc, ◌*ℤ◌, if◌then◌else◌, slice_index_or}
+use Rattle.std.specs.Prelude.{◌≡◌, ℕ, suc, ◌+◌, ◌*◌, ◌-◌, ◌/◌, ◌^◌, ◌<◌, nat_lt, nat_le, ◌&&◌, ◌==◌, List, length, take, drop, ℤ, pos, negsuc, ◌*ℤ◌, if◌then◌else◌, slice_index_or}
 use Rattle.vh_files.specs.Fields.{field_at}
 use Rattle.vh_wav.specs.declared.head.Head.{Head}
 use Rattle.vh_wav.specs.Judged.{align_of}
@@ -23,3 +23,14 @@ sample_in bytes head channel frame =
 abbrev pub HoldsFrames : List ℕ → Head → ℕ → ℕ → List ℤ → Type 0
 HoldsFrames bytes head from n out =
     (channel i : ℕ) → channel < head.channels → i < n → slice_index_or out (channel * n + i) (pos 0) ≡ sample_in bytes head channel (from + i)
+
+-- of n frames from this one on, the first so many are those of the head whose bytes are all in the file
+abbrev pub HasWhole : List ℕ → Head → ℕ → ℕ → ℕ → Type 0
+HasWhole bytes head from n whole =
+    (i : ℕ) → i < n → nat_lt i whole ≡ (nat_lt (from + i) head.frames && nat_le (head.at + (from + i + 1) * align_of head.channels head.bits) (length bytes))
+
+-- the bytes of so many frames from this one on begin the buffer
+abbrev pub HasBytes : List ℕ → Head → ℕ → ℕ → List ℕ → Type 0
+HasBytes bytes head from whole buf =
+    let align = align_of head.channels head.bits in
+    take (whole * align) buf ≡ take (whole * align) (drop (head.at + from * align) bytes)

@@ -6,5 +6,6 @@ mod frames;
 mod head;
 mod text;
 
+pub use frames::read_frames;
 pub use head::{Head, HeadRefused, WavFault, read_head};
 pub use text::{frame_bytes, head_bytes};
