@@ -1,0 +1,29 @@
+use Rattle.std.proofs.Common.{◌≡◌, Bool, true, false, ltb, length, sym, ◌∙◌, ap, arith, refl}
+use Rattle.std.specs.Str.{bytes_eq}
+use Rattle.vh_host.specs.Lines.{line_at}
+use Rattle.vh_host.specs.SessionForm.{session_in, session_limit, header, ended}
+use Rattle.vh_host.proofs.Texts.{not_short}
+use Rattle.vh_host.proofs.session.parse.Goals as goal
+
+pub returns-then-is_whole : goal.returns-then-is_whole
+unfolding session_in
+returns-then-is_whole c =
+    let short : ltb session_limit (length c.args.text.now) ≡ false = not_short _ _ c.requires in
+    let whole : bytes_eq (line_at 0 c.args.text.now) (ended header) ≡ true = cc in
+    rw (short, whole) c.parse_lines.ensures
+
+pub returns-then-lacks_end : goal.returns-then-lacks_end
+unfolding session_in
+returns-then-lacks_end c =
+    let short : ltb session_limit (length c.args.text.now) ≡ false = not_short _ _ c.requires in
+    let whole : bytes_eq (line_at 0 c.args.text.now) (ended header) ≡ false = cc in
+    let open_ : bytes_eq (line_at 0 c.args.text.now) header ≡ true = cc in
+    rw (short, whole, open_, c.not_yet.ensures) refl
+
+pub returns : goal.returns
+unfolding session_in
+returns c =
+    let short : ltb session_limit (length c.args.text.now) ≡ false = not_short _ _ c.requires in
+    let whole : bytes_eq (line_at 0 c.args.text.now) (ended header) ≡ false = cc in
+    let open_ : bytes_eq (line_at 0 c.args.text.now) header ≡ false = cc in
+    rw (short, whole, open_) refl
