@@ -1,7 +1,9 @@
 //! The top calls of the host.
 #![tactic(auto)]
 
+mod gain;
 mod lines;
+mod report;
 mod session;
 mod status;
 

@@ -1,3 +1,5 @@
+ghost use Rattle.std.specs.Prelude.{◌≡◌};
+
 use thiserror::Error;
 use vh_wav::WavFault;
 
@@ -25,8 +27,12 @@ pub enum SessionKind {
 }
 
 impl SessionKind {
+    ghost use Rattle.vh_host.specs.Report.{session_number};
+
     /// The number of the kind in refusals.
-    pub fn number(self) -> u8 {
+    pub fn number(self) -> u8
+        ensures { result ≡ session_number self }
+    {
         match self {
             SessionKind::BadHeader => 1,
             SessionKind::TooLong => 20,
@@ -53,4 +59,23 @@ pub enum Status {
     ReadFault(Place),
     WriteFault(Place),
     Memory,
+}
+
+impl Status {
+    ghost use Rattle.vh_host.specs.Report.{status_number};
+
+    /// The number with which the program ends.
+    pub fn number(&self) -> u8
+        ensures { result ≡ status_number self.now }
+    {
+        match self {
+            Status::Ok => 0,
+            Status::Usage => 1,
+            Status::SessionRefused(_) => 2,
+            Status::WavRefused(_) => 3,
+            Status::ReadFault(_) => 6,
+            Status::WriteFault(_) => 7,
+            Status::Memory => 8,
+        }
+    }
 }

@@ -1,4 +1,4 @@
-use Rattle.std.specs.Prelude.{ℕ, ◌-◌, ◌≤◌, ◌^◌, min, List, [], ◌∷◌, ℤ, pos, negsuc, ◌+ℤ◌, neg_ℤ, ◌≤ℤ◌}
+use Rattle.std.specs.Prelude.{ℕ, ◌-◌, ◌≤◌, ◌/◌, ◌^◌, min, List, [], ◌∷◌, ℤ, pos, negsuc, ◌+ℤ◌, neg_ℤ, ◌≤ℤ◌}
 
 -- the nearest number of 32 bits with sign: of -2^31 to 2^31 - 1
 abbrev pub clamp_of : ℤ → ℤ
@@ -15,3 +15,8 @@ abbrev pub added : List ℤ → List ℤ → List ℤ
 added [] ys = []
 added (x ∷ xs) [] = x ∷ xs
 added (x ∷ xs) (y ∷ ys) = (x +ℤ y) ∷ added xs ys
+
+-- the quotient, rounded down
+abbrev pub floor_div : ℤ → ℕ → ℤ
+floor_div (pos a) d = pos (a / d)
+floor_div (negsuc a) d = negsuc (a / d)

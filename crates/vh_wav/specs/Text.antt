@@ -2,6 +2,7 @@
 use Rattle.std.specs.Prelude.{ℕ, zero, suc, ◌+◌, ◌*◌, ◌-◌, ◌/◌, ◌%◌, ◌^◌, min, ◌==◌, List, [], ◌∷◌, ◌++◌, length, map, take, drop, replicate, ℤ, pos, negsuc, if◌then◌else◌, codes}
 use Rattle.std.specs.List.{flat_map, zip}
 use Rattle.std.specs.Int.{bytes_low_first}
+use Rattle.vh_num.specs.Samples.{floor_div}
 use Rattle.vh_wav.specs.Judged.{align_of}
 
 -- one sample of each channel
@@ -11,11 +12,6 @@ Frame = List ℤ
 -- the lowest n bytes of a number, the least first
 abbrev pub little_bytes : ℕ → ℕ → List ℕ
 little_bytes n x = bytes_low_first 0 n x
-
--- the quotient, rounded down
-abbrev pub floor_div : ℤ → ℕ → ℤ
-floor_div (pos a) d = pos (a / d)
-floor_div (negsuc a) d = negsuc (a / d)
 
 -- the nearest number of so many bits with sign
 abbrev pub clamp_to : ℕ → ℤ → ℤ
