@@ -116,3 +116,6 @@ over_most most text i before within rest over =
 
 pub not_short : (a b : ℕ) → b ≤ a → ltb a b ≡ false
 not_short a b h = grind (arith, nat_tests)
+
+pub lt_true : (a b : ℕ) → a < b → ltb a b ≡ true
+lt_true a b h = grind (arith, nat_tests)

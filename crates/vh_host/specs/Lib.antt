@@ -6,3 +6,6 @@ pub mod Rendering
 pub mod Report
 pub mod Words
 pub mod Outside
+pub mod Stops
+pub mod Answers
+pub mod Named

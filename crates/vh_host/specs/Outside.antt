@@ -1,17 +1,9 @@
 -- What a top call does to the outside, and why it stopped.
-use Rattle.std.specs.Prelude.{◌≡◌, ◌≢◌, ℕ, ◌<◌, ◌≤◌, Bool, true, false, List, [], ◌++◌, length, take, Option, Some, None, Result, Ok, Err, ◌⊎◌, ⊤}
+use Rattle.std.specs.Prelude.{◌≡◌, ℕ, Bool, false, List, Option, Some, None, ◌⊎◌}
 use Rattle.vh_files.specs.Causes.{Rose}
-use Rattle.vh_files.specs.Store.{Held, told, Lacks, HasNow, SameElsewhere, SaysMore, SaysInPart}
-use Rattle.vh_wav.specs.declared.head.Head.{Head}
-use Rattle.vh_wav.specs.declared.head.WavFault.{WavFault}
-use Rattle.vh_host.specs.declared.status.Place.{Place}
-use Rattle.vh_host.specs.declared.status.Place.TheVariants.{Session, Input, Output, Report}
+use Rattle.vh_files.specs.Store.{Held, told, Lacks, SaysMore, SaysInPart}
 use Rattle.vh_host.specs.declared.status.Status.{Status}
-use Rattle.vh_host.specs.declared.status.Status.TheVariants as status
-use Rattle.vh_host.specs.Words.{Names}
-use Rattle.vh_host.specs.SessionForm.{Asked, session_in}
-use Rattle.vh_host.specs.Rendering.{input_in, output_text}
-use Rattle.vh_host.specs.Report.{report_text, refused_text}
+use Rattle.vh_host.specs.Report.{refused_text}
 
 -- the outside before a call and after it: the files and whether they are all told, the counts of
 -- faults, and what is said
@@ -36,13 +28,6 @@ ReadAs complete held name Holds = ((bytes : List ℕ) × (told held name ≡ Som
 abbrev pub Unread : Outside → List ℕ → Type 0
 Unread o name = Lacks o.complete o.old name ⊎ Rose o.reads o.reads_now
 
--- the session was read and accepted, and so was the input
-abbrev pub SessionIs : Outside → Names → Asked → Type 0
-SessionIs o names asked = ReadAs o.complete o.old names.session (λ bytes. session_in bytes ≡ Ok asked)
-
-abbrev pub InputIs : Outside → Names → List ℕ → Head → Type 0
-InputIs o names bytes head = (told o.old names.input ≡ Some bytes) × (input_in bytes ≡ Ok head)
-
 -- no file is changed
 abbrev pub Untouched : Outside → Type 0
 Untouched o = o.new ≡ o.old
@@ -50,10 +35,3 @@ Untouched o = o.new ≡ o.old
 -- the line of this answer was said, or a part of it where a write of what is said failed
 abbrev pub Refuses : Outside → Status → Type 0
 Refuses o answer = SaysMore o.said o.said_now (refused_text answer) ⊎ (Rose o.faults o.faults_now × SaysInPart o.said o.said_now (refused_text answer))
-
--- the output has all of this text, or is as before or has a front part of it
-abbrev pub IsWritten : Outside → List ℕ → List ℕ → Type 0
-IsWritten o name text = HasNow o.complete (told o.new name) text
-
-abbrev pub IsBegun : Outside → List ℕ → List ℕ → Type 0
-IsBegun o name text = (o.new ≡ o.old) ⊎ ((n : ℕ) × (n < length text) × HasNow o.complete (told o.new name) (take n text))

@@ -3,7 +3,9 @@
 
 mod gain;
 mod lines;
+mod render;
 mod report;
+mod run;
 mod session;
 mod status;
 

@@ -1,6 +1,6 @@
 //! Lines, numbers and names of the texts.
 
-ghost use Rattle.std.specs.Prelude.{◌≡◌, ◌≤◌, ◌^◌, ◌++◌, Option, Some, None, length, option_copied};
+ghost use Rattle.std.specs.Prelude.{◌≡◌, ◌≤◌, ◌^◌, ◌++◌, Option, Some, None, length, option_copied, IfSome};
 ghost use Rattle.vh_host.specs.Lines.{first_line, after_line};
 ghost use Rattle.vh_host.specs.Numbers.{digits_within, plain_number, is_name, is_name_byte, between};
 
@@ -20,7 +20,8 @@ pub fn split_line(text: &[u8]) -> (&[u8], &[u8])
 /// The number of a text of decimal digits, where it is no more than `most`.
 fn digits(text: &[u8], most: u32) -> Option<u32>
     requires { most ≤ 2 ^ 24 }
-    ensures { result ≡ digits_within most text.now }
+    ensures value { result ≡ digits_within most text.now }
+    ensures bound { IfSome result (λ n. n ≤ most) }
 {
     let mut number = 0u32;
     for &b in text {
@@ -38,7 +39,8 @@ fn digits(text: &[u8], most: u32) -> Option<u32>
 /// A number that is no more than `most`, in decimal without leading zeros.
 pub fn number(text: &[u8], most: u32) -> Option<u32>
     requires { most ≤ 2 ^ 24 }
-    ensures { result ≡ plain_number most text.now }
+    ensures value { result ≡ plain_number most text.now }
+    ensures bound { IfSome result (λ n. n ≤ most) }
 {
     if text.is_empty() || (text.len() != 1 && text[0] == b'0') {
         return None;

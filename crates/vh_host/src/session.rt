@@ -1,6 +1,6 @@
 //! The sessions that are read so far.
 
-ghost use Rattle.std.specs.Prelude.{◌≡◌, ◌≤◌, Option, Some, None, Result, Ok, Err, option_copied, length};
+ghost use Rattle.std.specs.Prelude.{◌≡◌, ◌≤◌, Option, Some, None, Result, Ok, Err, option_copied, length, IfSome, IfOk, ◌^◌};
 ghost use Rattle.vh_host.specs.SessionForm.{length_in, size_in, name_in, names, fault_at, lines_in, session_in, session_limit};
 ghost use Rattle.vh_host.specs.Parsed.{parsed};
 
@@ -23,14 +23,16 @@ pub struct Asked<'a> {
 
 /// `length L`.
 fn length_in(line: &[u8]) -> Option<u32>
-    ensures { result ≡ length_in line.now }
+    ensures value { result ≡ length_in line.now }
+    ensures bound { IfSome result (λ n. n ≤ 2 ^ 24) }
 {
     number(between(line, b"length ", b"\n")?, 16_777_216)
 }
 
 /// `pattern N`.
 fn size_in(line: &[u8]) -> Option<u32>
-    ensures { result ≡ size_in line.now }
+    ensures value { result ≡ size_in line.now }
+    ensures bound { IfSome result (λ n. (1 ≤ n) × (n ≤ 8192)) }
 {
     let size = number(between(line, b"pattern ", b"\n")?, 8192)?;
     if size == 0 { None } else { Some(size) }
@@ -66,7 +68,8 @@ fn not_yet(line: u32) -> SessionFault
 
 /// Reads the lines behind the header.
 fn parse_lines(text: &[u8]) -> Result<Asked<'_>, SessionFault>
-    ensures { parsed result ≡ lines_in text.now }
+    ensures value { parsed result ≡ lines_in text.now }
+    ensures bounds { IfOk result (λ asked. (asked.length ≤ 2 ^ 24) × (1 ≤ asked.size) × (asked.size ≤ 8192)) }
 {
     let (_, rest) = split_line(text);
     let (line, rest) = split_line(rest);
@@ -107,7 +110,8 @@ fn parse_lines(text: &[u8]) -> Result<Asked<'_>, SessionFault>
 /// Reads a session that isn't longer than the limit.
 pub fn parse(text: &[u8]) -> Result<Asked<'_>, SessionFault>
     requires { length text.now ≤ session_limit }
-    ensures { parsed result ≡ session_in text.now }
+    ensures value { parsed result ≡ session_in text.now }
+    ensures bounds { IfOk result (λ asked. (asked.length ≤ 2 ^ 24) × (1 ≤ asked.size) × (asked.size ≤ 8192)) }
 {
     let (line, _) = split_line(text);
     let is_whole = line == b"vsthost session 1\n".as_slice();

@@ -1,4 +1,4 @@
-ghost use Rattle.std.specs.Prelude.{◌≡◌, ◌≤◌, ℕ, ◌+◌, ◌*◌, min, Bool, true, List, length, take, drop, Option, Some, None, IsSome, Result, Ok, Err, IfOk, IfSome, OnErr, ◌∷◌};
+ghost use Rattle.std.specs.Prelude.{◌≡◌, ◌≤◌, ℕ, ◌+◌, ◌*◌, min, Bool, true, List, length, take, drop, Option, Some, None, IsSome, Result, Ok, Err, IfOk, IfSome, OnErr, ◌∷◌, ◌<◌, ◌^◌};
 
 
 use crate::chunk::Chunk;
@@ -245,6 +245,7 @@ pub fn read_head<F: Files>(files: &mut F, name: &str, size: u64) -> Result<Head,
     ensures verdict { (bytes : List ℕ) → told (F.held files.old) name.now ≡ Some bytes → IsVerdict (wav_head bytes) result }
     ensures lawful { IfOk result IsHead }
     ensures within { IfOk result (λ head. frames_end head ≤ size) }
+    ensures fits { IfOk result (λ head. frames_end head < 2 ^ 64) }
     ensures only_read { OnlyRead (F.held files.old) (F.held files.new) (F.complete files.old) (F.complete files.new) (F.write_faults files.old) (F.write_faults files.new) (F.read_faults files.old) (F.read_faults files.new) }
     ensures failed { result ≡ Err HeadRefused.Failed → Rose (F.read_faults files.old) (F.read_faults files.new) }
 {

@@ -5,24 +5,24 @@ use Rattle.vh_host.specs.SessionForm.{session_in, session_limit, header, ended}
 use Rattle.vh_host.proofs.Texts.{not_short}
 use Rattle.vh_host.proofs.session.parse.Goals as goal
 
-pub returns-then-is_whole : goal.returns-then-is_whole
+pub returns-then-is_whole-clause-value : goal.returns-then-is_whole-clause-value
 unfolding session_in
-returns-then-is_whole c =
+returns-then-is_whole-clause-value c =
     let short : ltb session_limit (length c.args.text.now) ≡ false = not_short _ _ c.requires in
     let whole : bytes_eq (line_at 0 c.args.text.now) (ended header) ≡ true = cc in
-    rw (short, whole) c.parse_lines.ensures
+    rw (short, whole) c.parse_lines.ensures.value
 
-pub returns-then-lacks_end : goal.returns-then-lacks_end
+pub returns-then-lacks_end-clause-value : goal.returns-then-lacks_end-clause-value
 unfolding session_in
-returns-then-lacks_end c =
+returns-then-lacks_end-clause-value c =
     let short : ltb session_limit (length c.args.text.now) ≡ false = not_short _ _ c.requires in
     let whole : bytes_eq (line_at 0 c.args.text.now) (ended header) ≡ false = cc in
     let open_ : bytes_eq (line_at 0 c.args.text.now) header ≡ true = cc in
     rw (short, whole, open_, c.not_yet.ensures) refl
 
-pub returns : goal.returns
+pub returns-clause-value : goal.returns-clause-value
 unfolding session_in
-returns c =
+returns-clause-value c =
     let short : ltb session_limit (length c.args.text.now) ≡ false = not_short _ _ c.requires in
     let whole : bytes_eq (line_at 0 c.args.text.now) (ended header) ≡ false = cc in
     let open_ : bytes_eq (line_at 0 c.args.text.now) header ≡ false = cc in
