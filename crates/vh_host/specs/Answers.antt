@@ -1,7 +1,7 @@
 -- What each answer of a top call says: why it comes, and what stands.
 use Rattle.std.specs.Prelude.{◌≡◌, ◌≢◌, ℕ, Bool, List, Option, Some, None, Result, Ok, Err, IsOk, ◌⊎◌}
 use Rattle.vh_files.specs.Causes.{Rose}
-use Rattle.vh_files.specs.Store.{told, HasNow, SaysMore, SaysInPart, SameElsewhere}
+use Rattle.vh_files.specs.Store.{Held, told, HasNow, SaysMore, SaysInPart}
 use Rattle.vh_wav.specs.declared.head.Head.{Head}
 use Rattle.vh_host.specs.declared.status.Place.TheVariants.{Session, Input, Output, Report}
 use Rattle.vh_host.specs.declared.status.Status.{Status}
@@ -77,8 +77,8 @@ Answers o words status.Memory =
     (Untouched o ⊎ ((names : Names) × (names_in words ≡ Some names) × OutputIs o names (IsBegun o names))) × (o.said_now ≡ o.said)
 
 -- no file but the output changes, and without good words none does
-abbrev pub ChangesOnlyOutput : Outside → List (List ℕ) → Type 0
-ChangesOnlyOutput o words = (other : List ℕ) → ((names : Names) → names_in words ≡ Some names → other ≢ names.output) → told o.new other ≡ told o.old other
+abbrev pub ChangesOnlyOutput : Held → Held → List (List ℕ) → Type 0
+ChangesOnlyOutput old new words = (other : List ℕ) → ((names : Names) → names_in words ≡ Some names → other ≢ names.output) → told new other ≡ told old other
 
 -- what a rendering does where it is done
 pub record Renders (o : Outside) (names : Names) : Type 0 where

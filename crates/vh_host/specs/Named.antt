@@ -1,6 +1,6 @@
 -- The names that were read.
 use Rattle.std.specs.Prelude.{Option, Some, None}
-use Rattle.vh_host.specs.declared.run.Names.{Names as Read}
+use Rattle.vh_host.specs.declared.top.Names.{Names as Read}
 use Rattle.vh_host.specs.Words.{Names}
 
 abbrev pub names_of : Read → Names

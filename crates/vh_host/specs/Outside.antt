@@ -1,8 +1,10 @@
 -- What a top call does to the outside, and why it stopped.
-use Rattle.std.specs.Prelude.{◌≡◌, ℕ, Bool, false, List, Option, Some, None, ◌⊎◌}
+use Rattle.std.specs.Prelude.{◌≡◌, ℕ, Bool, false, List, Option, Some, None, ◌⊎◌, ⊤}
 use Rattle.vh_files.specs.Causes.{Rose}
 use Rattle.vh_files.specs.Store.{Held, told, Lacks, SaysMore, SaysInPart}
 use Rattle.vh_host.specs.declared.status.Status.{Status}
+use Rattle.vh_host.specs.declared.status.Status.TheVariants as status
+use Rattle.vh_host.specs.declared.status.Place.TheVariants.{Session, Input, Output, Report}
 use Rattle.vh_host.specs.Report.{refused_text}
 
 -- the outside before a call and after it: the files and whether they are all told, the counts of
@@ -32,6 +34,29 @@ Unread o name = Lacks o.complete o.old name ⊎ Rose o.reads o.reads_now
 abbrev pub Untouched : Outside → Type 0
 Untouched o = o.new ≡ o.old
 
--- the line of this answer was said, or a part of it where a write of what is said failed
+-- an answer of which a line is said
+abbrev pub IsRefusal : Status → Type 0
+IsRefusal status.Ok = ⊥
+IsRefusal status.Usage = ⊤
+IsRefusal (status.SessionRefused fault) = ⊤
+IsRefusal (status.WavRefused fault) = ⊤
+IsRefusal (status.ReadFault place) = ⊤
+IsRefusal (status.WriteFault Session) = ⊤
+IsRefusal (status.WriteFault Input) = ⊤
+IsRefusal (status.WriteFault Output) = ⊤
+IsRefusal (status.WriteFault Report) = ⊥
+IsRefusal status.Memory = ⊥
+
+-- the line of an answer was said, or a part of it where a write of what is said failed
+abbrev pub SaysLine : Option (List ℕ) → Option (List ℕ) → ℕ → ℕ → Status → Type 0
+SaysLine said said_now faults faults_now answer =
+    SaysMore said said_now (refused_text answer) ⊎ (Rose faults faults_now × SaysInPart said said_now (refused_text answer))
+
+-- this answer is said
 abbrev pub Refuses : Outside → Status → Type 0
-Refuses o answer = SaysMore o.said o.said_now (refused_text answer) ⊎ (Rose o.faults o.faults_now × SaysInPart o.said o.said_now (refused_text answer))
+Refuses o answer = SaysLine o.said o.said_now o.faults o.faults_now answer
+
+-- the answer is this one and its line was said, or there was no memory and nothing was said
+abbrev pub IsRefused : Status → Option (List ℕ) → Option (List ℕ) → ℕ → ℕ → Status → Type 0
+IsRefused answer said said_now faults faults_now result =
+    ((result ≡ answer) × SaysLine said said_now faults faults_now answer) ⊎ ((result ≡ status.Memory) × (said_now ≡ said))

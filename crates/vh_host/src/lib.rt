@@ -5,8 +5,10 @@ mod gain;
 mod lines;
 mod render;
 mod report;
-mod run;
+
 mod session;
 mod status;
+mod top;
 
+pub use top::run;
 pub use status::{Place, SessionFault, SessionKind, Status};

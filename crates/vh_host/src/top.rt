@@ -20,7 +20,7 @@ struct Names<'a> {
     output: &'a str,
 }
 
-ghost use Rattle.vh_host.specs.Outside.{Outside, Refuses};
+ghost use Rattle.vh_host.specs.Outside.{Outside, IsRefusal, IsRefused};
 ghost use Rattle.vh_files.specs.Store.{SameElsewhere};
 ghost use Rattle.vh_host.specs.Answers.{Answers, ChangesOnlyOutput, Renders, RenderStops};
 ghost use Rattle.vh_host.specs.Named.{named, names_of};
@@ -74,4 +74,42 @@ fn render<F: Files, Y: Say>(alloc: Global, names: &Names<'_>, files: &mut F, say
         return Err(Status::WriteFault(Place::Report));
     }
     Ok(())
+}
+
+/// Says the line of an answer that refuses, and gives the answer: itself, or `Memory` where there is
+/// none for the line.
+fn refuse<Y: Say>(alloc: Global, say: &mut Y, status: Status) -> Status
+    requires { IsRefusal status }
+    ensures said { IsRefused status (Y.said say.old) (Y.said say.new) (Y.faults say.old) (Y.faults say.new) result }
+    ensures faults { Y.faults say.old ≤ Y.faults say.new }
+{
+    let Ok(line) = refusal(alloc, &status) else {
+        return Status::Memory;
+    };
+    let _ = say_all(say, line.as_bytes());
+    status
+}
+
+/// Runs a command. The one that there is yet is `render SESSION IN OUT`: it renders a session of one
+/// gain over the frames of IN, a WAV file of one channel, to OUT, and says the report.
+///
+/// A refusal or a fault is said as one line. No file but OUT is changed, and none where the answer is
+/// a refusal.
+pub fn run<F: Files, Y: Say>(alloc: Global, words: &[String], files: &mut F, say: &mut Y) -> Status
+    ensures answer { Answers (record { complete = F.complete files.old; old = F.held files.old; new = F.held files.new; reads = F.read_faults files.old; reads_now = F.read_faults files.new; writes = F.write_faults files.old; writes_now = F.write_faults files.new; said = Y.said say.old; said_now = Y.said say.new; faults = Y.faults say.old; faults_now = Y.faults say.new }) (map string_bytes words.now) result }
+    ensures others { ChangesOnlyOutput (F.held files.old) (F.held files.new) (map string_bytes words.now) }
+    ensures complete { F.complete files.new ≡ F.complete files.old }
+    ensures reads { F.read_faults files.old ≤ F.read_faults files.new }
+    ensures writes { F.write_faults files.old ≤ F.write_faults files.new }
+    ensures faults { Y.faults say.old ≤ Y.faults say.new }
+{
+    let Some(names) = read_words(words) else {
+        return refuse(alloc, say, Status::Usage);
+    };
+    match render(alloc, &names, files, say) {
+        Ok(()) => Status::Ok,
+        Err(Status::Memory) => Status::Memory,
+        Err(Status::WriteFault(Place::Report)) => Status::WriteFault(Place::Report),
+        Err(status) => refuse(alloc, say, status),
+    }
 }
