@@ -45,7 +45,7 @@ Grows-append complete (Some had) mid new first second a b =
     let P : Option (List ℕ) → Type 0 = λ m. Grows complete m new second in
     ⊎_elim
     (λ told. let both : HasNow complete new ((had ++ first) ++ second) = subst P told b in
-      ⊎_elim (λ e. inl (e ∙ ap Some (append_assoc had first second))) (λ gone. inr gone) both)
+    ⊎_elim (λ e. inl (e ∙ ap Some (append_assoc had first second))) (λ gone. inr gone) both)
     (λ gone. inr (gone.0, subst P gone.1 b))
     a
 

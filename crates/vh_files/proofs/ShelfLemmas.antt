@@ -115,13 +115,13 @@ module _ (old new : Slab Bytes) (names : List Named) (n : Named) (shelf : IsShel
         (key_in_cases names n one k h);
     apart = λ one other k h i. ⊎_elim
         (λ before. ⊎_elim
-            (λ too. shelf.apart one other k before too)
-            (λ here. absurd (not_vacant old k n.key (shelf.found one k before) vacant here.1))
-            (key_in_cases names n other k i))
+        (λ too. shelf.apart one other k before too)
+        (λ here. absurd (not_vacant old k n.key (shelf.found one k before) vacant here.1))
+        (key_in_cases names n other k i))
         (λ here. ⊎_elim
-            (λ before. absurd (not_vacant old k n.key (shelf.found other k before) vacant here.1))
-            (λ too. here.0 ∙ sym too.0)
-            (key_in_cases names n other k i))
+        (λ before. absurd (not_vacant old k n.key (shelf.found other k before) vacant here.1))
+        (λ too. here.0 ∙ sym too.0)
+        (key_in_cases names n other k i))
         (key_in_cases names n one k h);
   }
 

@@ -1,7 +1,6 @@
 -- Files in memory: names with keys, and the bytes under each key.
 use Rattle.std.specs.Prelude.{◌≡◌, ◌≢◌, ℕ, List, [], ◌∷◌, ◌++◌, map, Option, Some, None, if◌then◌else◌, Vec}
 use Rattle.std.specs.Option.{option_map_or}
-
 use Rattle.std.specs.String.{string_bytes}
 use Rattle.std.specs.Str.{bytes_eq}
 use Rattle.std.specs.Coded.{Coded}

@@ -15,3 +15,6 @@ pub use fields::{field16, field32, field64};
 pub use mem::{MemFiles, MemSay};
 pub use outside::{Failed, Files, Gate, Say};
 pub use whole::{append_all, fill, say_all};
+
+#[cfg(test)]
+mod tests;

@@ -141,7 +141,12 @@ impl Files for MemFiles {
         ensures failing { failing_in self.new ≡ failing_in self.old }
     {
         let due = is_due(self.failing.as_slice(), &mut self.calls, Op::Create);
-        if due || self.shelf.put(self.alloc, name, Vec::new(self.alloc)).is_err() {
+        if due
+            || self
+                .shelf
+                .put(self.alloc, name, Vec::new(self.alloc))
+                .is_err()
+        {
             self.write_faults = self.write_faults.saturating_add(1);
             return Err(Failed);
         }

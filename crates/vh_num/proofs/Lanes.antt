@@ -21,20 +21,20 @@ get_or-added (x ∷ xs) (y ∷ ys) (suc k) h e = get_or-added xs ys k (omega ari
 pub added_all : (acc old src : List ℤ) (i : ℕ) → IsSummed acc old src i → length acc ≡ length old → length old ≡ length src → length old ≤ i → acc ≡ added old src
 added_all acc old src i sums n m all =
     same_lists acc (added old src) (omega (arith, length-added old src)) (λ k d h.
-      let within : k < length old = omega arith in
-      let here = get_or_default acc k d (pos 0) h in
-      let sum = sums.below k (omega arith) in
-      let lane = get_or-added old src k within m in
-      let there = get_or_default (added old src) k d (pos 0) (omega (arith, length-added old src)) in
-      cc)
+    let within : k < length old = omega arith in
+    let here = get_or_default acc k d (pos 0) h in
+    let sum = sums.below k (omega arith) in
+    let lane = get_or-added old src k within m in
+    let there = get_or_default (added old src) k d (pos 0) (omega (arith, length-added old src)) in
+    cc)
 
 pub map_all : (f : ℤ → ℤ) (out xs : List ℤ) (i : ℕ) → ((k : ℕ) → k < i → get_or out k (pos 0) ≡ f (get_or xs k (pos 0))) → length xs ≡ length out → length out ≤ i → out ≡ map f xs
 map_all f out xs i each n all = same_lists out (map f xs) (omega (arith, length-map xs f)) (λ k d h.
-      let within : k < length xs = omega arith in
-      let here = get_or_default out k d (pos 0) h in
-      let value = each k (omega arith) in
-      let there = get_or-map f xs k (pos 0) d within in
-      cc)
+    let within : k < length xs = omega arith in
+    let here = get_or_default out k d (pos 0) h in
+    let value = each k (omega arith) in
+    let there = get_or-map f xs k (pos 0) d within in
+    cc)
 
 -- one lane more
 pub IsSummed_more : (acc old src : List ℤ) (i : ℕ) (x : ℤ) → i < length acc → IsSummed acc old src i → x ≡ get_or old i (pos 0) +ℤ get_or src i (pos 0) → IsSummed (set acc i x) old src (i + 1)

@@ -8,3 +8,6 @@ mod values;
 pub use refusal::Refusal;
 pub use samples::{clamp, mix_into, settle};
 pub use values::{ONE, index, norm, quant};
+
+#[cfg(test)]
+mod tests;
