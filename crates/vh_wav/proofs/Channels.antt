@@ -1,4 +1,4 @@
-use Rattle.std.proofs.Common.{◌≡◌, ℕ, ◌+◌, ◌*◌, ◌-◌, ◌/◌, ◌<◌, ◌≤◌, Bool, true, false, ◌&&◌, cond, ltb, leb, List, ◌++◌, zero, suc, length, take, drop, get_or, ℤ, pos, ◌*ℤ◌, ◌⊎◌, ⊎_elim, refl, sym, ap, subst, ◌∙◌, arith}
+use Rattle.std.proofs.Common.{◌≡◌, ℕ, ◌+◌, ◌*◌, ◌-◌, ◌/◌, ◌<◌, ◌≤◌, Bool, true, false, cond, ltb, List, ◌++◌, zero, suc, length, take, drop, get_or, ℤ, pos, ◌*ℤ◌, ◌⊎◌, ⊎_elim, refl, sym, ap, subst, ◌∙◌, arith}
 use Rattle.std.proofs.lemmas.List.{drop-take, take-take, drop-drop, take_at, get_or_append_left, get_or-append-add}
 use Rattle.std.proofs.lemmas.Bool.Decides.{Decides-ltb}
 use Rattle.std.proofs.Math.Nat.{mul-le-mul_left}
@@ -6,7 +6,7 @@ use Rattle.vh_files.specs.Fields.{number_of}
 use Rattle.vh_wav.specs.declared.head.Head.{Head}
 use Rattle.vh_wav.specs.Judged.{align_of}
 use Rattle.vh_wav.specs.Heads.{IsHead}
-use Rattle.vh_wav.specs.Samples.{signed, sample_at, sample_in, HoldsFrames, HasWhole, HasBytes}
+use Rattle.vh_wav.specs.Samples.{signed, sample_at, HoldsFrames, HasWhole, HasBytes}
 
 -- a window within the front of a list
 window_in_front : (rest : List ℕ) (room k n : ℕ) → k + n ≤ room → take n (drop k (take room rest)) ≡ take n (drop k rest)
@@ -36,18 +36,18 @@ frames_hold bytes head from n whole align buf part out lawful align_is counts ho
     let size : ℕ = align_of head.channels head.bits in
     let size_is : size ≡ head.channels * width = refl in
     decoded channel i on within ∙ choose (ltb i whole) _ _ _ (pos 0) (counts i within) (λ there.
-      let below : i < whole = (Decides-ltb i whole).0 there in
-      let most : size * (i + 1) ≤ size * whole = mul-le-mul_left size (omega arith) in
-      let base : ℕ = head.at + from * size in
-      let k : ℕ = i * size + channel * width in
-      let front : part ≡ take (whole * size) (drop base bytes) = part_is ∙ ap (λ a. take (whole * a) buf) align_is ∙ holds in
-      let place : base + k ≡ head.at + ((from + i) * size + channel * width) = omega arith in
-      let inside : k + width ≤ whole * size = omega (arith, most, fits, size_is) in
-      same_sample head.bits part bytes k _ lawful.bits
-      (ap (λ xs. take width (drop k xs)) front
-      ∙ window_in_front (drop base bytes) (whole * size) k width inside
-      ∙ ap (take width) (drop-drop k base bytes)
-      ∙ ap (λ m. take width (drop m bytes)) place))
+    let below : i < whole = (Decides-ltb i whole).0 there in
+    let most : size * (i + 1) ≤ size * whole = mul-le-mul_left size (omega arith) in
+    let base : ℕ = head.at + from * size in
+    let k : ℕ = i * size + channel * width in
+    let front : part ≡ take (whole * size) (drop base bytes) = part_is ∙ ap (λ a. take (whole * a) buf) align_is ∙ holds in
+    let place : base + k ≡ head.at + ((from + i) * size + channel * width) = omega arith in
+    let inside : k + width ≤ whole * size = omega (arith, most, fits, size_is) in
+    same_sample head.bits part bytes k _ lawful.bits
+    (ap (λ xs. take width (drop k xs)) front
+    ∙ window_in_front (drop base bytes) (whole * size) k width inside
+    ∙ ap (take width) (drop-drop k base bytes)
+    ∙ ap (λ m. take width (drop m bytes)) place))
 
 -- two channels, one behind the other
 pub two_channels : (first second post rest : List ℤ) (n channels : ℕ) (value : ℕ → ℕ → ℤ) → length first ≡ n → length second ≡ n → ((k : ℕ) → k < n → get_or first k (pos 0) ≡ value 0 k) → ((k : ℕ) → k < n → get_or second k (pos 0) ≡ value 1 k) → channels ≡ 2

@@ -1,4 +1,4 @@
-use Rattle.std.proofs.Common.{◌≡◌, ℕ, suc, ◌+◌, ◌*◌, ◌-◌, ◌/◌, ◌%◌, ◌<◌, ◌≤◌, min, Bool, true, false, ◌&&◌, ltb, leb, refl, sym, ap, ◌∙◌, ◌⊎◌, ⊎_elim, arith}
+use Rattle.std.proofs.Common.{◌≡◌, ℕ, ◌+◌, ◌*◌, ◌-◌, ◌/◌, ◌%◌, ◌<◌, ◌≤◌, min, Bool, true, false, ◌&&◌, ltb, leb, refl, sym, ◌⊎◌, ⊎_elim, arith}
 use Rattle.vh_wav.specs.Judged.{align_of}
 use Rattle.std.proofs.lemmas.Bool.{leb-true, le-leb, false≢true, cases_lt}
 use Rattle.std.proofs.lemmas.Bool.Decides.{Decides-ltb}
@@ -25,17 +25,17 @@ whole_count size at align from frames n left got i some left_is got_is within =
     let less : got % align < align = omega arith in
     bool_same (ltb i q) (ltb (from + i) frames && leb (at + (from + i + 1) * align) size)
     (λ h.
-      let below : i < q = (Decides-ltb i q).0 h in
-      let most : align * (i + 1) ≤ align * q = mul-le-mul_left align (omega arith) in
-      let asked : i + 1 ≤ left = ⊎_elim (λ (lt : i < left). omega arith) (λ (ge : left ≤ i). let low = mul-le-mul_left align ge in absurd (omega (arith, low, most))) (cases_lt i left) in
-      and_true _ _ ((Decides-ltb (from + i) frames).1 (omega arith)) (le-leb _ _ (omega (arith, most))))
+    let below : i < q = (Decides-ltb i q).0 h in
+    let most : align * (i + 1) ≤ align * q = mul-le-mul_left align (omega arith) in
+    let asked : i + 1 ≤ left = ⊎_elim (λ (lt : i < left). omega arith) (λ (ge : left ≤ i). let low = mul-le-mul_left align ge in absurd (omega (arith, low, most))) (cases_lt i left) in
+    and_true _ _ ((Decides-ltb (from + i) frames).1 (omega arith)) (le-leb _ _ (omega (arith, most))))
     (λ h.
-      let parts = and_parts _ _ h in
-      let inside : from + i < frames = (Decides-ltb (from + i) frames).0 parts.0 in
-      let fits : at + (from + i + 1) * align ≤ size = leb-true _ _ parts.1 in
-      let most : align * (i + 1) ≤ align * left = mul-le-mul_left align (omega arith) in
-      let there : align * (i + 1) ≤ got = omega (arith, most) in
-      (Decides-ltb i q).1 (⊎_elim (λ (lt : i < q). lt) (λ (ge : q ≤ i). let up : align * (q + 1) ≤ align * (i + 1) = mul-le-mul_left align (omega arith) in absurd (omega (arith, up, there))) (cases_lt i q)))
+    let parts = and_parts _ _ h in
+    let inside : from + i < frames = (Decides-ltb (from + i) frames).0 parts.0 in
+    let fits : at + (from + i + 1) * align ≤ size = leb-true _ _ parts.1 in
+    let most : align * (i + 1) ≤ align * left = mul-le-mul_left align (omega arith) in
+    let there : align * (i + 1) ≤ got = omega (arith, most) in
+    (Decides-ltb i q).1 (⊎_elim (λ (lt : i < q). lt) (λ (ge : q ≤ i). let up : align * (q + 1) ≤ align * (i + 1) = mul-le-mul_left align (omega arith) in absurd (omega (arith, up, there))) (cases_lt i q)))
 
 -- a frame has bytes
 pub align_some : (channels bits : ℕ) → (channels ≡ 1) ⊎ (channels ≡ 2) → (bits ≡ 16) ⊎ (bits ≡ 24) → 1 ≤ align_of channels bits

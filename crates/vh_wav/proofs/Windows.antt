@@ -1,10 +1,10 @@
-use Rattle.std.proofs.Common.{◌≡◌, ℕ, ◌+◌, ◌-◌, ◌*◌, ◌<◌, ◌≤◌, min, Bool, true, leb, List, ◌++◌, length, take, drop, sym, ap, ◌∙◌, subst, arith, rules}
+use Rattle.std.proofs.Common.{◌≡◌, ℕ, ◌+◌, ◌-◌, ◌≤◌, min, true, leb, List, ◌++◌, length, take, drop, sym, ap, ◌∙◌, subst, arith}
 use Rattle.std.proofs.lemmas.List.{length-drop, length-take-le, drop-take, take-take, take-append-le, drop-append-le, take_all}
 use Rattle.std.proofs.lemmas.Bool.Decides.{nat_tests}
 use Rattle.vh_files.specs.Fields.{number_of, field_at}
 use Rattle.vh_files.specs.Store.{FillsFrom}
 use Rattle.vh_wav.specs.declared.chunk.Chunk.{Chunk as Seen}
-use Rattle.vh_wav.specs.Chunks.{Chunk, chunk_at, front_size}
+use Rattle.vh_wav.specs.Chunks.{chunk_at, front_size}
 use Rattle.vh_wav.specs.Heads.{IsSeen}
 
 le_true : (a b : ℕ) → a ≤ b → leb a b ≡ true
@@ -41,13 +41,14 @@ seen_chunk bytes buf tail at got left room seen fills size rest_is room_is enoug
     let number : field_at seen.bytes 4 4 ≡ field_at rest 4 4 = ap (λ xs. number_of (take 4 (drop 4 xs))) whole ∙ ap number_of (window rest tail room 4 4 at_most (omega arith)) in
     let P : ℕ → Type 0 = λ n. n ≤ left - 8 in
     let inside : field_at rest 4 4 ≤ left - 8 = subst P number fits in
-    let within : field_at rest 4 4 ≤ length rest - 8 = omega arith in
-    (omega arith,
-    record {
-      id = ap (λ xs. take 4 (drop 0 xs)) whole ∙ window rest tail room 0 4 at_most (omega arith);
-      size = number;
-      at = at_is;
-      front = ap (λ n. take (min n front_size) (drop 8 seen.bytes)) number ∙ ap (λ xs. take (min (field_at rest 4 4) front_size) (drop 8 xs)) whole
-          ∙ window rest tail room 8 (min (field_at rest 4 4) front_size) at_most (omega arith);
-    },
-    le_true _ _ within)
+    let within : field_at rest 4 4 ≤ length rest - 8 = omega arith in (
+      omega arith,
+      record {
+        id = ap (λ xs. take 4 (drop 0 xs)) whole ∙ window rest tail room 0 4 at_most (omega arith);
+        size = number;
+        at = at_is;
+        front = ap (λ n. take (min n front_size) (drop 8 seen.bytes)) number ∙ ap (λ xs. take (min (field_at rest 4 4) front_size) (drop 8 xs)) whole
+            ∙ window rest tail room 8 (min (field_at rest 4 4) front_size) at_most (omega arith);
+      },
+      le_true _ _ within,
+    )

@@ -1,5 +1,5 @@
 -- Heads, and what the reader of one answers.
-use Rattle.std.specs.Prelude.{◌≡◌, ℕ, ◌+◌, ◌*◌, ◌/◌, ◌≤◌, ◌<◌, min, true, false, List, length, take, drop, Option, Some, None, IfSome, Result, Ok, Err, ◌⊎◌, ⊤}
+use Rattle.std.specs.Prelude.{◌≡◌, ℕ, ◌+◌, ◌*◌, ◌≤◌, ◌<◌, min, true, false, List, length, take, drop, Option, Some, None, IfSome, Result, Ok, Err, ◌⊎◌, ⊤}
 use Rattle.vh_files.specs.Fields.{field_at}
 use Rattle.vh_wav.specs.declared.chunk.Chunk.{Chunk as Seen}
 use Rattle.vh_wav.specs.declared.head.Judged.{Judged}

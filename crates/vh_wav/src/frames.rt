@@ -77,7 +77,14 @@ fn decode(bits: u16, bytes: &[u8], offset: usize, align: usize, out: &mut [i32])
 }
 
 /// Reads one channel of the first `whole` frames in `bytes`; the places past them become zero.
-fn decode_channel(bits: u16, bytes: &[u8], whole: usize, offset: usize, align: usize, out: &mut [i32])
+fn decode_channel(
+    bits: u16,
+    bytes: &[u8],
+    whole: usize,
+    offset: usize,
+    align: usize,
+    out: &mut [i32],
+)
     requires bits { (bits ≡ 16) ⊎ (bits ≡ 24) }
     requires frames { whole * align ≤ length bytes.now }
     requires channel { offset + bits / 8 ≤ align }
@@ -109,7 +116,14 @@ fn decode_frames(head: &Head, bytes: &[u8], whole: usize, n: usize, out: &mut [i
 }
 
 /// Reads the bytes of at most `n` frames from frame `from` on, and answers how many frames are there.
-fn fetch<F: Files>(files: &mut F, name: &str, head: &Head, from: u64, n: usize, scratch: &mut [u8]) -> Result<usize, Failed>
+fn fetch<F: Files>(
+    files: &mut F,
+    name: &str,
+    head: &Head,
+    from: u64,
+    n: usize,
+    scratch: &mut [u8],
+) -> Result<usize, Failed>
     requires there { F.complete files.old ≡ true → IsSome (told (F.held files.old) name.now) }
     requires head { IsHead head.now }
     requires fits { frames_end head.now < 2 ^ 64 }
@@ -132,7 +146,15 @@ fn fetch<F: Files>(files: &mut F, name: &str, head: &Head, from: u64, n: usize, 
 
 /// Reads `n` frames from frame `from` on, channel after channel; those past the end are zero. The
 /// bytes go through `scratch`.
-pub fn read_frames<F: Files>(files: &mut F, name: &str, head: &Head, from: u64, n: usize, scratch: &mut [u8], out: &mut [i32]) -> Result<(), Failed>
+pub fn read_frames<F: Files>(
+    files: &mut F,
+    name: &str,
+    head: &Head,
+    from: u64,
+    n: usize,
+    scratch: &mut [u8],
+    out: &mut [i32],
+) -> Result<(), Failed>
     requires there { F.complete files.old ≡ true → IsSome (told (F.held files.old) name.now) }
     requires head { IsHead head.now }
     requires fits { frames_end head.now < 2 ^ 64 }

@@ -1,6 +1,5 @@
 ghost use Rattle.std.specs.Prelude.{◌≡◌, ◌≤◌, ℕ, ◌+◌, ◌*◌, min, Bool, true, List, length, take, drop, Option, Some, None, IsSome, Result, Ok, Err, IfOk, IfSome, OnErr, ◌∷◌, ◌<◌, ◌^◌};
 
-
 use crate::chunk::Chunk;
 use thiserror::Error;
 use vh_files::{Failed, Files, field16, field32, fill};
@@ -73,6 +72,7 @@ ghost use Rattle.vh_files.specs.Fields.{field_at};
 ghost use Rattle.vh_wav.specs.Chunks.{Chunk as SpecChunk};
 
 const PCM: u16 = 1;
+
 const EXTENSIBLE: u16 = 0xFFFE;
 
 /// The subformat of integer samples in the extensible form (KSDATAFORMAT_SUBTYPE_PCM).
@@ -209,7 +209,12 @@ fn has_marks<F: Files>(files: &mut F, name: &str, size: u64) -> Result<bool, Fai
 }
 
 /// Reads the front of the chunk at a place of the file, where eight bytes are left.
-fn read_chunk<F: Files>(files: &mut F, name: &str, size: u64, at: u64) -> Result<Option<Chunk>, HeadRefused>
+fn read_chunk<F: Files>(
+    files: &mut F,
+    name: &str,
+    size: u64,
+    at: u64,
+) -> Result<Option<Chunk>, HeadRefused>
     requires there { F.complete files.old ≡ true → IsSome (told (F.held files.old) name.now) }
     requires size { (bytes : List ℕ) → told (F.held files.old) name.now ≡ Some bytes → size ≡ length bytes }
     requires within { at ≤ size }
@@ -228,10 +233,7 @@ fn read_chunk<F: Files>(files: &mut F, name: &str, size: u64, at: u64) -> Result
     if got < 8 {
         return Ok(None);
     }
-    let chunk = Chunk {
-        bytes,
-        at: at + 8,
-    };
+    let chunk = Chunk { bytes, at: at + 8 };
     if u64::from(chunk.size()) > left - 8 {
         return Err(HeadRefused::Wav(WavFault::Truncated));
     }

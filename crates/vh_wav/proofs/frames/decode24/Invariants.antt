@@ -1,4 +1,4 @@
-use Rattle.std.proofs.Common.{◌≡◌, ℕ, ◌+◌, ◌*◌, ◌<◌, get_or, pos, ◌*ℤ◌}
+use Rattle.std.proofs.Common.{◌≡◌, ℕ, ◌+◌, ◌*◌, ◌<◌, get_or, pos}
 use Rattle.vh_files.specs.Fields.{field_at}
 use Rattle.vh_wav.specs.Samples.{signed}
 use Rattle.vh_wav.proofs.frames.decode24.Given as goal

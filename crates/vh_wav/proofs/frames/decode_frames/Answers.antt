@@ -1,4 +1,4 @@
-use Rattle.std.proofs.Common.{◌≡◌, ℕ, ◌+◌, ◌*◌, ◌/◌, ◌-◌, ◌++◌, ltb, cond, length, take, drop, ℤ, pos, ap, sym, ◌∙◌, arith}
+use Rattle.std.proofs.Common.{◌≡◌, ℕ, ◌+◌, ◌*◌, ◌/◌, ◌-◌, ◌++◌, ltb, cond, length, drop, ℤ, pos, ap, sym, ◌∙◌, arith}
 use Rattle.std.proofs.lemmas.List.{length-take-le, length-append, length-drop, take_rest}
 use Rattle.vh_wav.specs.Judged.{align_of}
 use Rattle.vh_wav.specs.Samples.{sample_at}
@@ -22,9 +22,9 @@ returns-else-head-eq1 c = λ channel i on within.
     let width : ℕ = head.bits / 8 in
     two_channels c.decode_channel-else-head-eq1.new.out c.decode_channel-else-head-eq1-2.new.out _ _ c.args.n head.channels value first second
     (λ k below.
-      let place : k * align + 0 ≡ k * align + 0 * width = omega arith in
-      c.decode_channel-else-head-eq1.ensures k (omega (arith, first)) ∙ ap (λ at. cond (ltb k c.args.whole) (sample_at head.bits c.args.bytes.now at) (pos 0)) (ap (λ m. k * m + 0) size ∙ place))
+    let place : k * align + 0 ≡ k * align + 0 * width = omega arith in
+    c.decode_channel-else-head-eq1.ensures k (omega (arith, first)) ∙ ap (λ at. cond (ltb k c.args.whole) (sample_at head.bits c.args.bytes.now at) (pos 0)) (ap (λ m. k * m + 0) size ∙ place))
     (λ k below.
-      let place : k * align + width ≡ k * align + 1 * width = omega arith in
-      c.decode_channel-else-head-eq1-2.ensures k (omega (arith, second)) ∙ ap (λ at. cond (ltb k c.args.whole) (sample_at head.bits c.args.bytes.now at) (pos 0)) (ap (λ m. k * m + c.from-width.result) size ∙ ap (λ w. k * align + w) c.from-width.ensures ∙ place))
+    let place : k * align + width ≡ k * align + 1 * width = omega arith in
+    c.decode_channel-else-head-eq1-2.ensures k (omega (arith, second)) ∙ ap (λ at. cond (ltb k c.args.whole) (sample_at head.bits c.args.bytes.now at) (pos 0)) (ap (λ m. k * m + c.from-width.result) size ∙ ap (λ w. k * align + w) c.from-width.ensures ∙ place))
     both channel i on within

@@ -1,4 +1,4 @@
-use Rattle.std.proofs.Common.{◌≡◌, ℕ, ◌+◌, ◌-◌, ◌%◌, ◌<◌, ◌≤◌, List, drop, Option, Some, None, Result, Ok, Err, sym, ap, subst, ◌∙◌, refl, arith}
+use Rattle.std.proofs.Common.{◌≡◌, ℕ, ◌+◌, ◌-◌, ◌%◌, ◌<◌, ◌≤◌, drop, Option, Some, None, Result, Ok, Err, sym, ap, subst, ◌∙◌, refl, arith}
 use Rattle.std.specs.Option.{IfSome}
 use Rattle.vh_files.specs.Fields.{field_at}
 use Rattle.vh_files.specs.Store.{told}
@@ -7,9 +7,9 @@ use Rattle.vh_wav.specs.declared.chunk.Chunk.{Chunk as Seen}
 use Rattle.vh_wav.specs.declared.head.Judged.{Judged}
 use Rattle.vh_wav.specs.declared.head.WavFault.{WavFault}
 use Rattle.vh_wav.specs.Chunks.{chunks_after}
-use Rattle.vh_wav.specs.Judged.{wav_head, is_riff, missing}
-use Rattle.vh_wav.specs.Heads.{IsRead, IsLawful, IsFormat, continued}
-use Rattle.vh_wav.proofs.Walk.{walk_begins, no_marks, walk_ends, walk_goes, walk_over, walk_refused, verdict_of}
+use Rattle.vh_wav.specs.Judged.{wav_head}
+use Rattle.vh_wav.specs.Heads.{IsRead, IsLawful, continued}
+use Rattle.vh_wav.proofs.Walk.{walk_begins, no_marks, walk_ends, walk_goes, walk_over, verdict_of}
 use Rattle.vh_wav.proofs.head.read_head.Goals as goal
 
 pub walk-init : goal.walk-init
@@ -69,12 +69,12 @@ returns-then-length-size-clause-verdict g c = λ bytes e.
 pub walk-preserved : goal.walk-preserved
 walk-preserved g c = (
   (let P : Option Seen → Type 0 = λ o. IfSome o (λ seen. (seen.at ≡ c.walk.at + 8) × (seen.at + field_at seen.bytes 4 4 ≤ c.args.size)) in
-    let fits = subst P c.in-Some.is c.in_ok-chunk.ensures.fits in
-    let size : c.from-length.result ≡ field_at c.in-Some.chunk.bytes 4 4 = c.from-length.ensures ∙ c.size.ensures in
-    let Q : ℕ → Type 0 = λ n. c.in-Some.chunk.at + n ≤ c.args.size in
-    let ends : c.in-Some.chunk.at + c.from-length.result ≤ c.args.size = subst Q (sym size) fits.1 in
-    let pad : c.from-length.result % 2 ≤ c.args.size - (c.in-Some.chunk.at + c.from-length.result) = c.if-length-size.false in
-    omega (arith, ends, pad)),
+      let fits = subst P c.in-Some.is c.in_ok-chunk.ensures.fits in
+      let size : c.from-length.result ≡ field_at c.in-Some.chunk.bytes 4 4 = c.from-length.ensures ∙ c.size.ensures in
+      let Q : ℕ → Type 0 = λ n. c.in-Some.chunk.at + n ≤ c.args.size in
+      let ends : c.in-Some.chunk.at + c.from-length.result ≤ c.args.size = subst Q (sym size) fits.1 in
+      let pad : c.from-length.result % 2 ≤ c.args.size - (c.in-Some.chunk.at + c.from-length.result) = c.if-length-size.false in
+      omega (arith, ends, pad)),
   (let Q : Judged → Type 0 = λ j. IsLawful (c.in-Some.chunk.at + field_at c.in-Some.chunk.bytes 4 4) j in subst Q c.in-Walk.is c.in_ok-head.ensures.lawful),
   λ bytes e.
       let here : told (g.F.Files.held c.walk.files) c.args.name.now ≡ Some bytes = ap (λ h. told h c.args.name.now) c.walk.invariant.3.held ∙ e in

@@ -24,10 +24,10 @@ loop-i-preserved c =
     let left : c.bytes24-l.result ≡ sample_bytes 24 x = c.bytes24-l.ensures ∙ ap (sample_bytes 24) (to_z-of_z w32 x fits_x) in
     let right : c.bytes24-r.result ≡ sample_bytes 24 y = c.bytes24-r.ensures ∙ ap (sample_bytes 24) (to_z-of_z w32 y fits_y) in
     let part : c.copy_from_slice.new.self ≡ both (get_or pairs c.loop-i.i (pos 0, pos 0)) =
-        c.copy_from_slice.ensures.after
-        ∙ ap (λ (l : List ℕ). get_or l 0 0 ∷ get_or l 1 0 ∷ get_or l 2 0 ∷ get_or c.bytes24-r.result 0 0 ∷ get_or c.bytes24-r.result 1 0 ∷ get_or c.bytes24-r.result 2 0 ∷ []) left
-        ∙ ap (λ (r : List ℕ). get_or (sample_bytes 24 x) 0 0 ∷ get_or (sample_bytes 24 x) 1 0 ∷ get_or (sample_bytes 24 x) 2 0 ∷ get_or r 0 0 ∷ get_or r 1 0 ∷ get_or r 2 0 ∷ []) right
-        ∙ sym (ap both pair) in
+    c.copy_from_slice.ensures.after
+    ∙ ap (λ (l : List ℕ). get_or l 0 0 ∷ get_or l 1 0 ∷ get_or l 2 0 ∷ get_or c.bytes24-r.result 0 0 ∷ get_or c.bytes24-r.result 1 0 ∷ get_or c.bytes24-r.result 2 0 ∷ []) left
+    ∙ ap (λ (r : List ℕ). get_or (sample_bytes 24 x) 0 0 ∷ get_or (sample_bytes 24 x) 1 0 ∷ get_or (sample_bytes 24 x) 2 0 ∷ get_or r 0 0 ∷ get_or r 1 0 ∷ get_or r 2 0 ∷ []) right
+    ∙ sym (ap both pair) in
     let size : length c.copy_from_slice.new.self ≡ 6 = ap length part in
     let count = length-zip c.args.left.now c.args.right.now in
     grown both pairs c.loop-i.i 6 _ (pos 0, pos 0) c.loop-i.out c.copy_from_slice.new.self (omega (arith, count)) c.loop-i.invariant part size (omega (arith, count))

@@ -1,4 +1,4 @@
-use Rattle.std.proofs.Common.{◌≡◌, ℕ, ◌*◌, ◌/◌, ◌%◌, ◌-◌, ◌++◌, ℤ, length, take, drop, ap, sym, ◌∙◌, arith}
+use Rattle.std.proofs.Common.{◌≡◌, ℕ, ◌*◌, ◌/◌, ◌%◌, ◌++◌, ℤ, length, take, ap, sym, ◌∙◌, arith}
 use Rattle.std.proofs.Math.Nat.{mul_comm}
 use Rattle.std.proofs.lemmas.List.{take_rest, length-take-le}
 use Rattle.std.specs.List.{flat_map, zip}
@@ -10,7 +10,7 @@ pub returns-in-1-eq16-clause-bytes : goal.returns-in-1-eq16-clause-bytes
 returns-in-1-eq16-clause-bytes c =
     let bits : c.args.bits ≡ 16 = c.in-1-eq16.is-1 in
     let channels : c.args.channels ≡ 1 = c.in-1-eq16.is-0 in
-   let used : length c.args.frames.now * c.from.result ≡ 2 * length c.args.frames.now = ap (λ n. length c.args.frames.now * n) (c.from.ensures ∙ ap (λ n. n / 8) bits) ∙ mul_comm _ 2 in
+    let used : length c.args.frames.now * c.from.result ≡ 2 * length c.args.frames.now = ap (λ n. length c.args.frames.now * n) (c.from.ensures ∙ ap (λ n. n / 8) bits) ∙ mul_comm _ 2 in
     ap (λ n. take n c.encode_mono16.new.out) used ∙ c.encode_mono16.ensures ∙ sym (mono_text 16 c.args.frames.now)
     ∙ ap (λ n. frames_text n (frames_of 1 c.args.frames.now)) (sym bits) ∙ ap (λ n. frames_text c.args.bits (frames_of n c.args.frames.now)) (sym channels)
 
@@ -18,7 +18,7 @@ pub returns-in-1-default-clause-bytes : goal.returns-in-1-default-clause-bytes
 returns-in-1-default-clause-bytes c =
     let bits : c.args.bits ≡ 24 = omega arith in
     let channels : c.args.channels ≡ 1 = omega arith in
-   let used : length c.args.frames.now * c.from.result ≡ 3 * length c.args.frames.now = ap (λ n. length c.args.frames.now * n) (c.from.ensures ∙ ap (λ n. n / 8) bits) ∙ mul_comm _ 3 in
+    let used : length c.args.frames.now * c.from.result ≡ 3 * length c.args.frames.now = ap (λ n. length c.args.frames.now * n) (c.from.ensures ∙ ap (λ n. n / 8) bits) ∙ mul_comm _ 3 in
     ap (λ n. take n c.encode_mono24.new.out) used ∙ c.encode_mono24.ensures ∙ sym (mono_text 24 c.args.frames.now)
     ∙ ap (λ n. frames_text n (frames_of 1 c.args.frames.now)) (sym bits) ∙ ap (λ n. frames_text c.args.bits (frames_of n c.args.frames.now)) (sym channels)
 
