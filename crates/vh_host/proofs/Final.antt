@@ -1,15 +1,14 @@
-use Rattle.std.proofs.Common.{◌≡◌, ◌≢◌, ℕ, Bool, true, false, List, Option, Some, None, Result, Ok, Err, refl, sym, ap, subst, ◌∙◌, inl, inr, ⊎_elim, ◌⊎◌}
+use Rattle.std.proofs.Common.{◌≡◌, ℕ, true, false, List, Some, Result, Ok, Err, sym, ap, subst, ◌∙◌}
 use Rattle.std.specs.Option.{IsSome}
 use Rattle.std.specs.Result.{IsOk, is_ok, is_err, OnOk, OnErr}
 use Rattle.std.proofs.lemmas.Bool.{false≢true}
-use Rattle.vh_files.specs.Causes.{Rose}
-use Rattle.vh_files.specs.Store.{told, HasNow}
+use Rattle.vh_files.specs.Store.{told}
 use Rattle.vh_wav.specs.declared.head.Head.{Head}
-use Rattle.vh_wav.specs.Text.{Frame, wav_text}
+use Rattle.vh_wav.specs.Text.{wav_text}
 use Rattle.vh_host.specs.declared.render.Samples.{Samples}
 use Rattle.vh_host.specs.Words.{Names}
 use Rattle.vh_host.specs.SessionForm.{Asked, session_in}
-use Rattle.vh_host.specs.Rendering.{input_in, output_text, rendered}
+use Rattle.vh_host.specs.Rendering.{input_in, rendered}
 use Rattle.vh_host.specs.Report.{report_text}
 use Rattle.vh_host.specs.Outside.{Outside}
 use Rattle.vh_host.specs.Answers.{SessionAccepted, InputAccepted, Asks, OutputIs, ReportIs}
@@ -46,7 +45,7 @@ module _ (o : Outside) (names : Names) (text : List ℕ) (asked : Asked) (input 
       let counted : asked.length ≡ other.length = ap (λ (a : Asked). a.length) (same_asked other asks) in
       let rate : input.rate ≡ head.rate = here.2 ∙ ap (λ (x : Head). x.rate) same in
       let frames : gained input.frames.items ≡ rendered bytes head other.length =
-          ap gained here.3 ∙ gained_samples bytes here.0 asked.length ∙ ap (λ (x : Head). rendered bytes x asked.length) same ∙ ap (rendered bytes head) counted in
+      ap gained here.3 ∙ gained_samples bytes here.0 asked.length ∙ ap (λ (x : Head). rendered bytes x asked.length) same ∙ ap (rendered bytes head) counted in
       subst Holds (ap (λ r. wav_text 1 r 16 (gained input.frames.items)) rate ∙ ap (wav_text 1 head.rate 16) frames) h
 
   pub report_is : (Holds : List ℕ → Type 0) → Holds (report_text asked) → ReportIs o names Holds

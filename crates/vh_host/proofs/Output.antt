@@ -1,13 +1,12 @@
-use Rattle.std.proofs.Common.{◌≡◌, ◌≢◌, ℕ, zero, suc, ◌+◌, ◌-◌, ◌*◌, ◌%◌, ◌<◌, ◌≤◌, min, Bool, true, false, ltb, eqb, List, [], ◌∷◌, ◌++◌, length, take, drop, map, replicate, get_or, ℤ, pos, Option, Some, None, Result, Ok, Err, ◌⊎◌, inl, inr, ⊎_elim, refl, sym, ap, subst, ◌∙◌, arith, rules}
+use Rattle.std.proofs.Common.{◌≡◌, ℕ, zero, suc, ◌+◌, ◌-◌, ◌*◌, ◌%◌, ◌<◌, ◌≤◌, Bool, true, false, ltb, eqb, List, [], ◌∷◌, ◌++◌, length, take, drop, map, replicate, get_or, ℤ, pos, Option, Some, None, Result, Ok, Err, ◌⊎◌, inl, inr, ⊎_elim, refl, sym, ap, subst, ◌∙◌, arith, rules}
 use Rattle.std.specs.Option.{IsSome, is_some}
 use Rattle.std.specs.Result.{OnOk, OnErr, MatchResult}
-use Rattle.std.specs.List.{flat_map}
 use Rattle.std.proofs.lemmas.Bool.{false≢true}
 use Rattle.std.proofs.lemmas.List.{length-append, length-map, length-take, length-drop, append-nil, take_at, drop_at, drop-drop, take_all, drop_all, take-take, length-take-le, places, get_or_append_left, get_or-append_right, get_or-take, same_lists, get_or_default, get_or-map}
 use Rattle.std.proofs.Math.Seq.{take-add}
 use Rattle.vh_files.specs.Causes.{Rose}
 use Rattle.vh_files.specs.Store.{Held, told, Lacks, HasNow, Grows, GrowsInPart}
-use Rattle.vh_wav.specs.Text.{Frame, frame_text, frames_text, frames_of, head_text, wav_text, data_size}
+use Rattle.vh_wav.specs.Text.{frame_text, frames_text, frames_of, head_text, wav_text, data_size}
 use Rattle.vh_host.specs.SessionForm.{session_in, session_limit, fault_at}
 use Rattle.vh_host.specs.declared.status.SessionKind.TheVariants.{TooLong}
 use Rattle.vh_host.specs.Rendering.{gain_of, unity}
@@ -212,7 +211,7 @@ pub samples_are : (bytes : List ℕ) (head : Head) (count : ℕ) (xs : List ℤ)
 samples_are bytes head count xs size each =
     let total : length (samples_in bytes head count) ≡ count = length-map-range_with_len (sample_in bytes head 0) 0 count in
     same_lists xs (samples_in bytes head count) (size ∙ sym total) (λ k d h.
-      get_or_default xs k d (pos 0) h ∙ each k h ∙ sym (get_or-map-range_with_len (sample_in bytes head 0) 0 count k k d (omega (arith, size)) (omega arith)))
+    get_or_default xs k d (pos 0) h ∙ each k h ∙ sym (get_or-map-range_with_len (sample_in bytes head 0) 0 count k k d (omega (arith, size)) (omega arith)))
 
 -- the frames of the samples are the rendering's
 pub gained_samples : (bytes : List ℕ) (head : Head) (count : ℕ) → gained (samples_in bytes head count) ≡ rendered bytes head count
@@ -220,8 +219,8 @@ gained_samples bytes head count =
     let total : length (gained (samples_in bytes head count)) ≡ count = length-map (samples_in bytes head count) (λ x. gain_of unity x ∷ []) ∙ length-map-range_with_len (sample_in bytes head 0) 0 count in
     let wanted : length (rendered bytes head count) ≡ count = length-map-range_with_len (frame_of bytes head) 0 count in
     same_lists (gained (samples_in bytes head count)) (rendered bytes head count) (total ∙ sym wanted) (λ k d h.
-      let within : k < count = omega (arith, total) in
-      let inside : k < length (samples_in bytes head count) = omega (arith, within, length-map-range_with_len (sample_in bytes head 0) 0 count) in
-      get_or-map (λ x. gain_of unity x ∷ []) (samples_in bytes head count) k (pos 0) d inside
-      ∙ ap (λ x. gain_of unity x ∷ []) (get_or-map-range_with_len (sample_in bytes head 0) 0 count k k (pos 0) within (omega arith))
-      ∙ sym (get_or-map-range_with_len (frame_of bytes head) 0 count k k d within (omega arith)))
+    let within : k < count = omega (arith, total) in
+    let inside : k < length (samples_in bytes head count) = omega (arith, within, length-map-range_with_len (sample_in bytes head 0) 0 count) in
+    get_or-map (λ x. gain_of unity x ∷ []) (samples_in bytes head count) k (pos 0) d inside
+    ∙ ap (λ x. gain_of unity x ∷ []) (get_or-map-range_with_len (sample_in bytes head 0) 0 count k k (pos 0) within (omega arith))
+    ∙ sym (get_or-map-range_with_len (frame_of bytes head) 0 count k k d within (omega arith)))

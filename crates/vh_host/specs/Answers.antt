@@ -1,5 +1,5 @@
 -- What each answer of a top call says: why it comes, and what stands.
-use Rattle.std.specs.Prelude.{◌≡◌, ◌≢◌, ℕ, Bool, List, Option, Some, None, Result, Ok, Err, IsOk, ◌⊎◌}
+use Rattle.std.specs.Prelude.{◌≡◌, ◌≢◌, ℕ, List, Some, None, Ok, Err, IsOk, ◌⊎◌}
 use Rattle.vh_files.specs.Causes.{Rose}
 use Rattle.vh_files.specs.Store.{Held, told, HasNow, SaysMore, SaysInPart}
 use Rattle.vh_wav.specs.declared.head.Head.{Head}

@@ -9,3 +9,4 @@ pub mod Outside
 pub mod Stops
 pub mod Answers
 pub mod Named
+pub mod Complete

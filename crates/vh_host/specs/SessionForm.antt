@@ -63,14 +63,14 @@ given (Some value) line next = next value
 abbrev pub lines_in : List ℕ → Result Asked SessionFault
 lines_in text =
     given (length_in (line_at 1 text)) 2 (λ count.
-      must (bytes_eq (line_at 2 text) (ended (codes "channels 1"))) 3 (
-        must (bytes_eq (line_at 3 text) (ended (codes "bits 16"))) 4 (
-          given (size_in (line_at 4 text)) 5 (λ size.
-            given (name_in (line_at 5 text)) 6 (λ name.
-              must (names (codes "wire in ") (10 ∷ []) name (line_at 6 text)) 7 (
-                must (names (codes "wire ") (codes " out" ++ 10 ∷ []) name (line_at 7 text)) 8 (
-                  must (length (line_at 8 text) == 0) 9 (
-                    Ok (record { length = count; size = size; name = name })))))))))
+    must (bytes_eq (line_at 2 text) (ended (codes "channels 1"))) 3 (
+    must (bytes_eq (line_at 3 text) (ended (codes "bits 16"))) 4 (
+    given (size_in (line_at 4 text)) 5 (λ size.
+    given (name_in (line_at 5 text)) 6 (λ name.
+    must (names (codes "wire in ") (10 ∷ []) name (line_at 6 text)) 7 (
+    must (names (codes "wire ") (codes " out" ++ 10 ∷ []) name (line_at 7 text)) 8 (
+    must (length (line_at 8 text) == 0) 9 (
+    Ok (record { length = count; size = size; name = name })))))))))
 
 -- what a session's bytes ask for, or the first fault
 unfoldable pub session_in : List ℕ → Result Asked SessionFault

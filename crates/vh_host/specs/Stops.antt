@@ -2,11 +2,11 @@
 use Rattle.std.specs.Prelude.{◌≡◌, ℕ, ◌<◌, ◌≤◌, Bool, List, ◌+◌, ◌*◌, length, take, drop, map, ℤ, [], ◌∷◌, Ok, Err, ◌⊎◌, ⊤, Option}
 use Rattle.std.specs.List.{range_with_len}
 use Rattle.vh_files.specs.Causes.{Rose}
-use Rattle.vh_files.specs.Store.{Held, told, Lacks, HasNow}
+use Rattle.vh_files.specs.Store.{Held, Lacks, HasNow}
 use Rattle.vh_wav.specs.declared.head.Head.{Head}
 use Rattle.vh_wav.specs.Samples.{sample_in}
 use Rattle.vh_wav.specs.Text.{Frame, frames_text}
-use Rattle.vh_host.specs.declared.status.Place.TheVariants.{Session, Input, Output, Report}
+use Rattle.vh_host.specs.declared.status.Place.TheVariants.{Session, Input}
 use Rattle.vh_host.specs.declared.status.Status.{Status}
 use Rattle.vh_host.specs.declared.status.Status.TheVariants as status
 use Rattle.vh_host.specs.declared.render.Samples.{Samples}

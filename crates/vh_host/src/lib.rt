@@ -5,10 +5,12 @@ mod gain;
 mod lines;
 mod render;
 mod report;
-
 mod session;
 mod status;
 mod top;
 
-pub use top::run;
 pub use status::{Place, SessionFault, SessionKind, Status};
+pub use top::run;
+
+#[cfg(test)]
+mod tests;

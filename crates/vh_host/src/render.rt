@@ -92,7 +92,13 @@ fn begin<F: Files>(files: &mut F, name: &str, head: &[u8]) -> Result<(), Failed>
 
 /// Adds the frames of a rendering to a file, block by block. The samples of the input become those of
 /// the output.
-fn write_blocks<F: Files>(files: &mut F, name: &str, size: usize, frames: &mut [i32], buffer: &mut [u8]) -> Result<(), Failed>
+fn write_blocks<F: Files>(
+    files: &mut F,
+    name: &str,
+    size: usize,
+    frames: &mut [i32],
+    buffer: &mut [u8],
+) -> Result<(), Failed>
     requires some { 1 ≤ size }
     requires room { 2 * size ≤ length buffer.old }
     ensures written { (text : List ℕ) (at : ℕ) → HasNow (F.complete files.old) (told (F.held files.old) name.now) (take at text) → HasBlocks text at frames.old
@@ -116,7 +122,14 @@ fn write_blocks<F: Files>(files: &mut F, name: &str, size: usize, frames: &mut [
 }
 
 /// Writes the file of a rendering. The samples of the input become those of the output.
-pub fn write_output<F: Files>(files: &mut F, name: &str, rate: u32, size: usize, frames: &mut [i32], buffer: &mut [u8]) -> Result<(), Failed>
+pub fn write_output<F: Files>(
+    files: &mut F,
+    name: &str,
+    rate: u32,
+    size: usize,
+    frames: &mut [i32],
+    buffer: &mut [u8],
+) -> Result<(), Failed>
     requires rate { rate ≤ 768000 }
     requires frames { length frames.old ≤ 2 ^ 24 }
     requires some { 1 ≤ size }
@@ -140,7 +153,13 @@ pub fn write_output<F: Files>(files: &mut F, name: &str, rate: u32, size: usize,
 const CHUNK: usize = 65_536;
 
 /// Reads the samples of a file of one channel, zero past its end.
-fn read_samples<F: Files>(files: &mut F, name: &str, head: &Head, frames: &mut [i32], scratch: &mut [u8]) -> Result<(), Failed>
+fn read_samples<F: Files>(
+    files: &mut F,
+    name: &str,
+    head: &Head,
+    frames: &mut [i32],
+    scratch: &mut [u8],
+) -> Result<(), Failed>
     requires there { F.complete files.old ≡ true → IsSome (told (F.held files.old) name.now) }
     requires head { IsHead head.now }
     requires fits { frames_end head.now < 2 ^ 64 }
@@ -153,14 +172,27 @@ fn read_samples<F: Files>(files: &mut F, name: &str, head: &Head, frames: &mut [
     let mut done = 0;
     while done < frames.len() {
         let n = CHUNK.min(frames.len() - done);
-        read_frames(files, name, head, done as u64, n, scratch, &mut frames[done..done + n])?;
+        read_frames(
+            files,
+            name,
+            head,
+            done as u64,
+            n,
+            scratch,
+            &mut frames[done..done + n],
+        )?;
         done += n;
     }
     Ok(())
 }
 
 /// Reads the input's samples.
-pub fn read_input<F: Files>(alloc: Global, files: &mut F, name: &str, count: u32) -> Result<Samples, Status>
+pub fn read_input<F: Files>(
+    alloc: Global,
+    files: &mut F,
+    name: &str,
+    count: u32,
+) -> Result<Samples, Status>
     requires { count ≤ 2 ^ 24 }
     ensures input { (bytes : List ℕ) → told (F.held files.old) name.now ≡ Some bytes → IfOk result (IsInput bytes count) }
     ensures there { OnOk result (F.complete files.old ≡ true → IsSome (told (F.held files.old) name.now)) }
@@ -186,7 +218,13 @@ pub fn read_input<F: Files>(alloc: Global, files: &mut F, name: &str, count: u32
     let Ok(mut scratch) = vec![in alloc; 0u8; 6 * CHUNK] else {
         return Err(Status::Memory);
     };
-    match read_samples(files, name, &head, frames.as_mut_slice(), scratch.as_mut_slice()) {
+    match read_samples(
+        files,
+        name,
+        &head,
+        frames.as_mut_slice(),
+        scratch.as_mut_slice(),
+    ) {
         Ok(()) => Ok(Samples {
             rate: head.rate,
             frames,

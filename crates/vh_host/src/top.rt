@@ -23,6 +23,7 @@ struct Names<'a> {
 ghost use Rattle.vh_host.specs.Outside.{Outside, IsRefusal, IsRefused};
 ghost use Rattle.vh_files.specs.Store.{SameElsewhere};
 ghost use Rattle.vh_host.specs.Answers.{Answers, ChangesOnlyOutput, Renders, RenderStops};
+ghost use Rattle.vh_host.specs.Complete.{IsUnhindered, IsDone};
 ghost use Rattle.vh_host.specs.Named.{named, names_of};
 
 /// Reads the words of a command.
@@ -46,7 +47,12 @@ fn read_words(words: &[String]) -> Option<Names<'_>>
 }
 
 /// Renders a session over its input.
-fn render<F: Files, Y: Say>(alloc: Global, names: &Names<'_>, files: &mut F, say: &mut Y) -> Result<(), Status>
+fn render<F: Files, Y: Say>(
+    alloc: Global,
+    names: &Names<'_>,
+    files: &mut F,
+    say: &mut Y,
+) -> Result<(), Status>
     ensures done { OnOk result (Renders (record { complete = F.complete files.old; old = F.held files.old; new = F.held files.new; reads = F.read_faults files.old; reads_now = F.read_faults files.new; writes = F.write_faults files.old; writes_now = F.write_faults files.new; said = Y.said say.old; said_now = Y.said say.new; faults = Y.faults say.old; faults_now = Y.faults say.new }) (names_of names.now)) }
     ensures stop { IfErr result (RenderStops (record { complete = F.complete files.old; old = F.held files.old; new = F.held files.new; reads = F.read_faults files.old; reads_now = F.read_faults files.new; writes = F.write_faults files.old; writes_now = F.write_faults files.new; said = Y.said say.old; said_now = Y.said say.new; faults = Y.faults say.old; faults_now = Y.faults say.new }) (names_of names.now)) }
     ensures others { SameElsewhere names.now.output.now (F.held files.old) (F.held files.new) }
@@ -67,7 +73,16 @@ fn render<F: Files, Y: Say>(alloc: Global, names: &Names<'_>, files: &mut F, say
     let Ok(mut buffer) = vec![in alloc; 0u8; 2 * asked.size as usize] else {
         return Err(Status::Memory);
     };
-    if write_output(files, names.output, input.rate, asked.size as usize, input.frames.as_mut_slice(), buffer.as_mut_slice()).is_err() {
+    if write_output(
+        files,
+        names.output,
+        input.rate,
+        asked.size as usize,
+        input.frames.as_mut_slice(),
+        buffer.as_mut_slice(),
+    )
+    .is_err()
+    {
         return Err(Status::WriteFault(Place::Output));
     }
     if say_all(say, report.as_slice()).is_err() {
@@ -102,6 +117,7 @@ pub fn run<F: Files, Y: Say>(alloc: Global, words: &[String], files: &mut F, say
     ensures reads { F.read_faults files.old ≤ F.read_faults files.new }
     ensures writes { F.write_faults files.old ≤ F.write_faults files.new }
     ensures faults { Y.faults say.old ≤ Y.faults say.new }
+    ensures completes { IsUnhindered (record { complete = F.complete files.old; old = F.held files.old; new = F.held files.new; reads = F.read_faults files.old; reads_now = F.read_faults files.new; writes = F.write_faults files.old; writes_now = F.write_faults files.new; said = Y.said say.old; said_now = Y.said say.new; faults = Y.faults say.old; faults_now = Y.faults say.new }) (map string_bytes words.now) → IsDone result }
 {
     let Some(names) = read_words(words) else {
         return refuse(alloc, say, Status::Usage);

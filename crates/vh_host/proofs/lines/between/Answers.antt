@@ -1,8 +1,7 @@
-use Rattle.std.proofs.Common.{◌≡◌, ◌≢◌, ◌≤◌, ◌+◌, ◌-◌, ℕ, Bool, true, false, length, take, drop, sym, ap, ◌∙◌, arith}
+use Rattle.std.proofs.Common.{◌≡◌, ◌-◌, ℕ, length, take, drop, sym, ◌∙◌, arith}
 use Rattle.std.proofs.lemmas.Bool.{false≢true}
 use Rattle.std.proofs.lemmas.List.{take_rest}
 use Rattle.std.proofs.lemmas.Slice.Eq.{bytes_eq-Decides}
-use Rattle.std.specs.Str.{bytes_eq}
 use Rattle.vh_host.proofs.Texts.{between_found, between_front, between_back}
 use Rattle.vh_host.proofs.lines.between.Goals as goal
 use Rattle.vh_host.proofs.lines.between.Goals.{else-has_front-via-then-has_front+else-has_back, else-has_front-via-else-has_front}
@@ -25,7 +24,7 @@ returns-else-has_front c =
     let end : ℕ = length line - length back in
     elim c.else-has_front.branch [
       | else-has_front-via-then-has_front+else-has_back w ↦ sym (between_back front back line (omega arith) (λ e.
-        false≢true (sym w.if-has_back.false ∙ c.eq-has_back.ensures ∙ (bytes_eq-Decides (take (length line - end) (drop end line)) back).1 (take_rest line end ∙ e))))
+          false≢true (sym w.if-has_back.false ∙ c.eq-has_back.ensures ∙ (bytes_eq-Decides (take (length line - end) (drop end line)) back).1 (take_rest line end ∙ e))))
       | else-has_front-via-else-has_front w ↦ sym (between_front front back line (λ e.
-        false≢true (sym w.if-has_front.false ∙ c.eq-has_front.ensures ∙ (bytes_eq-Decides (take (length front) line) front).1 e)))
+          false≢true (sym w.if-has_front.false ∙ c.eq-has_front.ensures ∙ (bytes_eq-Decides (take (length front) line) front).1 e)))
     ]

@@ -1,4 +1,4 @@
-use Rattle.std.proofs.Common.{◌≡◌, get_or, sym, arith}
+use Rattle.std.proofs.Common.{sym, arith}
 use Rattle.vh_host.proofs.Texts.{over_most}
 use Rattle.vh_host.proofs.lines.digits.Goals as goal
 

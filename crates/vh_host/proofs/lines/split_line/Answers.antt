@@ -1,4 +1,4 @@
-use Rattle.std.proofs.Common.{◌≡◌, ℕ, length, sym, ◌∙◌, subst, arith}
+use Rattle.std.proofs.Common.{◌≡◌, length, sym, ◌∙◌, subst, arith}
 use Rattle.std.proofs.lemmas.List.{take_all, drop_all}
 use Rattle.vh_host.proofs.Texts.{NoEndBelow, first_line-cut, after_line-cut, first_line-whole, after_line-whole}
 use Rattle.vh_host.proofs.lines.split_line.Goals as goal

@@ -1,13 +1,9 @@
-use Rattle.std.proofs.Common.{◌≡◌, ℕ, ◌+◌, ◌^◌, ◌<◌, ◌≤◌, true, List, Some, Ok, length, take, drop, get_or, pos, sym, ap, subst, ◌∙◌, refl, inr, arith}
+use Rattle.std.proofs.Common.{◌≡◌, Some, length, drop, sym, ap, subst, ◌∙◌, refl, inr, arith}
 use Rattle.std.specs.Option.{IsSome}
 use Rattle.std.proofs.lemmas.Bool.{false≢true}
 use Rattle.std.proofs.lemmas.List.{take_at}
-use Rattle.std.proofs.lemmas.Bool.Decides.{Decides-eqb}
-use Rattle.vh_files.specs.Causes.{OnlyRead}
 use Rattle.vh_files.specs.Store.{Held, told}
 use Rattle.vh_files.proofs.Chains.{OnlyRead-then}
-use Rattle.vh_host.specs.Rendering.{input_in}
-use Rattle.vh_host.specs.Stops.{samples_in}
 use Rattle.vh_host.proofs.Output.{there_from, Rose-earlier, input_is, samples_are}
 use Rattle.vh_host.proofs.render.read_input.Goals as goal
 

@@ -1,4 +1,4 @@
-use Rattle.std.proofs.Common.{◌≡◌, ℕ, ◌+◌, ◌-◌, ◌*◌, ◌<◌, ◌≤◌, List, length, take, drop, get_or, pos, sym, ap, ◌∙◌, ⊎_elim, arith}
+use Rattle.std.proofs.Common.{◌≡◌, ℕ, ◌+◌, ◌-◌, ◌*◌, ◌<◌, ◌≤◌, length, drop, get_or, pos, sym, ap, ◌∙◌, ⊎_elim, arith}
 use Rattle.std.proofs.lemmas.Bool.{cases_lt}
 use Rattle.std.proofs.lemmas.List.{length-drop, length-take-le}
 use Rattle.vh_files.specs.Store.{told}
@@ -17,17 +17,18 @@ loop-done-preserved g c =
     let within : done + n ≤ length c.loop-done.frames = omega (arith, c.loop-done-test.true, c.min-n.ensures) in
     let left = length-drop done c.loop-done.frames in
     let part : length c.read_frames.new.out ≡ n = c.read_frames.auto.out ∙ length-take-le k (drop done c.loop-done.frames) (omega (arith, within, left, same)) ∙ same in
-    let size_now = length-put done n k c.loop-done.frames c.read_frames.new.out same part within in
-    (omega (arith, size_now, within),
-    (λ bytes e i below. ⊎_elim
-      (λ (early : i < done). put_below done n k c.loop-done.frames c.read_frames.new.out i same part within early ∙ inv.1 bytes e i early)
-      (λ (late : done ≤ i).
-        let here : told (g.F.Files.held c.loop-done.files) c.args.name.now ≡ _ = ap (λ h. told h c.args.name.now) inv.2.held ∙ e in
-        let j : ℕ = i - done in
-        let place : done + j ≡ i = omega (arith, late) in
-        let holds = c.in_ok-read_frames.ensures.frames bytes here 0 j (omega (arith, c.requires.mono)) (omega (arith, place, below)) in
-        let spot : 0 * n + j ≡ j = omega arith in
-        put_within done n k c.loop-done.frames c.read_frames.new.out i same part within late below
-        ∙ ap (λ m. get_or c.read_frames.new.out m (pos 0)) (sym spot) ∙ holds ∙ ap (sample_in bytes c.args.head.now 0) place)
-      (cases_lt i done)),
-    OnlyRead-then _ _ _ _ _ _ _ _ _ _ _ _ inv.2 c.in_ok-read_frames.ensures.only_read)
+    let size_now = length-put done n k c.loop-done.frames c.read_frames.new.out same part within in (
+      omega (arith, size_now, within),
+      (λ bytes e i below. ⊎_elim
+          (λ (early : i < done). put_below done n k c.loop-done.frames c.read_frames.new.out i same part within early ∙ inv.1 bytes e i early)
+          (λ (late : done ≤ i).
+          let here : told (g.F.Files.held c.loop-done.files) c.args.name.now ≡ _ = ap (λ h. told h c.args.name.now) inv.2.held ∙ e in
+          let j : ℕ = i - done in
+          let place : done + j ≡ i = omega (arith, late) in
+          let holds = c.in_ok-read_frames.ensures.frames bytes here 0 j (omega (arith, c.requires.mono)) (omega (arith, place, below)) in
+          let spot : 0 * n + j ≡ j = omega arith in
+          put_within done n k c.loop-done.frames c.read_frames.new.out i same part within late below
+          ∙ ap (λ m. get_or c.read_frames.new.out m (pos 0)) (sym spot) ∙ holds ∙ ap (sample_in bytes c.args.head.now 0) place)
+          (cases_lt i done)),
+      OnlyRead-then _ _ _ _ _ _ _ _ _ _ _ _ inv.2 c.in_ok-read_frames.ensures.only_read,
+    )

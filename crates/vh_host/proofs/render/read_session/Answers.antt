@@ -1,5 +1,4 @@
-use Rattle.std.proofs.Common.{◌≡◌, ◌<◌, ◌≤◌, ℕ, List, ◌++◌, length, take, drop, Some, Result, Ok, sym, ap, subst, ◌∙◌, arith}
-use Rattle.std.specs.Result.{IfOk, IsErr}
+use Rattle.std.proofs.Common.{◌≡◌, ◌<◌, length, take, drop, Some, ap, ◌∙◌, arith}
 use Rattle.std.proofs.lemmas.Bool.{false≢true}
 use Rattle.std.proofs.lemmas.List.{take_at, take_all}
 use Rattle.vh_files.specs.Store.{told}

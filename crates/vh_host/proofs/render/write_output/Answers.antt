@@ -1,4 +1,4 @@
-use Rattle.std.proofs.Common.{◌≡◌, ℕ, ◌+◌, ◌*◌, Bool, List, length, take, sym, subst, arith}
+use Rattle.std.proofs.Common.{ℕ, ◌+◌, ◌*◌, Bool, List, length, take, sym, subst}
 use Rattle.vh_files.specs.Store.{told, HasNow}
 use Rattle.vh_wav.specs.Text.{wav_text}
 use Rattle.vh_host.specs.Stops.{gained, HasPart}

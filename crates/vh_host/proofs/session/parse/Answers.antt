@@ -1,4 +1,4 @@
-use Rattle.std.proofs.Common.{◌≡◌, Bool, true, false, ltb, length, sym, ◌∙◌, ap, arith, refl}
+use Rattle.std.proofs.Common.{◌≡◌, true, false, ltb, length, refl}
 use Rattle.std.specs.Str.{bytes_eq}
 use Rattle.vh_host.specs.Lines.{line_at}
 use Rattle.vh_host.specs.SessionForm.{session_in, session_limit, header, ended}

@@ -1,4 +1,4 @@
-use Rattle.std.proofs.Common.{◌≡◌, ℕ, ℤ, ◌⊎◌, Bool, true, false, List, Some, ap, sym, subst, ◌∙◌, refl, inl, inr, ⊎_elim}
+use Rattle.std.proofs.Common.{◌≡◌, ℕ, ℤ, ◌⊎◌, Bool, true, List, Some, ap, sym, subst, ◌∙◌, refl, inl, inr, ⊎_elim}
 use Rattle.std.specs.Option.{IsSome}
 use Rattle.vh_files.specs.Causes.{Rose}
 use Rattle.vh_files.specs.Store.{Held, told, HasNow, SaysMore, SaysInPart}

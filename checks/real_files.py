@@ -1,0 +1,153 @@
+"""Runs the built program over real files in a folder of its own, and compares what it says, how it
+ends and what it leaves with what is expected. Programs of packages that are missing are skipped."""
+import pathlib
+import shutil
+import struct
+import subprocess
+import sys
+import tempfile
+import wave
+
+TOP = pathlib.Path(__file__).resolve().parent.parent
+PROGRAM = str(TOP / "vsthost")
+LINES = ["vsthost session 1", "length 3", "channels 1", "bits 16", "pattern 64", "node a gain", "wire in a", "wire a out"]
+failures = []
+count = 0
+
+
+def expect(name, got, want):
+    global count
+    count += 1
+    if got != want:
+        failures.append(f"{name}: got {got!r}, wanted {want!r}")
+
+
+def session(changes=None, lines=8):
+    text = [(changes or {}).get(i, line) for i, line in enumerate(LINES)][:lines]
+    return "".join(line + "\n" for line in text).encode()
+
+
+def wav(samples, rate=48000, channels=1, bits=16, tag=1, riff=b"RIFF"):
+    data = b"".join(struct.pack("<h", sample) for sample in samples)
+    align = channels * bits // 8
+    head = struct.pack("<4sI4s4sIHHIIHH4sI", riff, 36 + len(data), b"WAVE", b"fmt ", 16, tag, channels, rate, rate * align, align, bits, b"data", len(data))
+    return head + data
+
+
+def report(frames, pieces, name="a"):
+    return f"vsthost report 1\nframes {frames}\npieces {pieces}\nparam {name} 0 8388608 0.5000\nparam {name} 1 0 Off\nclose\n"
+
+
+def run(folder, words, stdout=subprocess.PIPE):
+    done = subprocess.run([PROGRAM, *words], cwd=folder, stdin=subprocess.DEVNULL, stdout=stdout, stderr=subprocess.DEVNULL)
+    return done.returncode, (done.stdout or b"").decode()
+
+
+def folder_with(files):
+    folder = pathlib.Path(tempfile.mkdtemp(dir=WORK))
+    for name, content in files.items():
+        (folder / name).write_bytes(content)
+    return folder
+
+
+RENDER = ["render", "s", "in.wav", "out.wav"]
+
+
+def check_renderings():
+    rows = [
+        ("the input again", {}, [0, 1000, -1], [0, 1000, -1], 3, 1),
+        ("beyond the input", {1: "length 5"}, [7, 8], [7, 8, 0, 0, 0], 5, 1),
+        ("no frames", {1: "length 0"}, [7, 8], [], 0, 0),
+        ("pieces of one frame", {4: "pattern 1"}, [0, 1000, -1], [0, 1000, -1], 3, 3),
+        ("loud samples", {1: "length 4", 4: "pattern 3"}, [32767, -32768, 1, -1], [32767, -32768, 1, -1], 4, 2),
+    ]
+    for name, changes, samples, want, frames, pieces in rows:
+        folder = folder_with({"s": session(changes), "in.wav": wav(samples)})
+        expect(name, run(folder, RENDER), (0, report(frames, pieces)))
+        out = folder / "out.wav"
+        expect(name, out.read_bytes(), wav(want))
+        with wave.open(str(out)) as opened:
+            expect(name, (opened.getnframes(), opened.getnchannels(), opened.getframerate(), opened.getsampwidth()), (frames, 1, 48000, 2))
+        check_by_tools(name, out, frames)
+
+
+def check_by_tools(name, out, frames):
+    if shutil.which("soxi"):
+        said = subprocess.run(["soxi", "-s", str(out)], capture_output=True, text=True)
+        expect(f"{name}, by sox", said.stdout.strip(), str(frames))
+    if shutil.which("ffprobe") and frames:
+        said = subprocess.run(["ffprobe", "-v", "error", "-show_entries", "stream=duration_ts", "-of", "csv=p=0", str(out)], capture_output=True, text=True)
+        expect(f"{name}, by ffprobe", said.stdout.strip(), str(frames))
+
+
+def check_example():
+    folder = folder_with({})
+    words = ["render", str(TOP / "examples/gain.vst"), str(TOP / "examples/tone.wav"), "out.wav"]
+    expect("the example", run(folder, words), (0, report(4000, 8, "level")))
+    expect("the example", (folder / "out.wav").read_bytes(), (TOP / "examples/tone.wav").read_bytes())
+
+
+def check_refusals():
+    good = wav([0, 1000, -1])
+    rows = [
+        ("bits 24", session({3: "bits 24"}), good, 2, "refused session 4 21\n"),
+        ("seven lines", session(lines=7), good, 2, "refused session 8 21\n"),
+        ("another header", session({0: "vsthost session 2"}), good, 2, "refused session 1 1\n"),
+        ("an empty session", b"", good, 2, "refused session 1 1\n"),
+        ("no last line end", session()[:-1], good, 2, "refused session 8 21\n"),
+        ("a ninth line", session() + b"\n", good, 2, "refused session 9 21\n"),
+        ("a leading zero", session({1: "length 03"}), good, 2, "refused session 2 21\n"),
+        ("a return", session({5: "node a gain\r"}), good, 2, "refused session 6 21\n"),
+        ("too many bytes", b"x" * 33554433, good, 2, "refused session 0 20\n"),
+        ("the most bytes", b"x" * 33554432, good, 2, "refused session 1 1\n"),
+        ("no RIFF", session(), wav([1], riff=b"RIFX"), 3, "refused wav 1\n"),
+        ("no fmt", session(), good[:12], 3, "refused wav 2\n"),
+        ("8 bits", session(), wav([1], bits=8), 3, "refused wav 4\n"),
+        ("another coding", session(), wav([1], tag=3), 3, "refused wav 4\n"),
+        ("no data", session(), good[:36], 3, "refused wav 5\n"),
+        ("a short file", session(), good[:-1], 3, "refused wav 6\n"),
+        ("two channels", session(), wav([1, 2], channels=2), 3, "refused wav 7\n"),
+    ]
+    for name, text, sound, status, said in rows:
+        folder = folder_with({"s": text, "in.wav": sound})
+        expect(name, run(folder, RENDER), (status, said))
+        expect(name, sorted(path.name for path in folder.iterdir()), ["in.wav", "s"])
+    folder = folder_with({})
+    for words in [[], ["render"], ["render", "s", "in.wav"], ["check", "s", "a", "b"], RENDER + ["block=0"], RENDER + ["x", "y"], [b"render", b"\xff", b"in.wav", b"out.wav"]]:
+        expect(f"words {words}", run(folder, words), (1, "refused usage\n"))
+        expect(f"words {words}", list(folder.iterdir()), [])
+
+
+def check_faults():
+    files = {"s": session(), "in.wav": wav([0, 1000, -1])}
+    folder = folder_with({"in.wav": files["in.wav"]})
+    expect("no session", run(folder, RENDER), (6, "failed read session\n"))
+    expect("no session", [path.name for path in folder.iterdir()], ["in.wav"])
+    folder = folder_with({"s": files["s"]})
+    expect("no input", run(folder, RENDER), (6, "failed read input\n"))
+    (folder / "in.wav").mkdir()
+    expect("a folder as input", run(folder, RENDER), (6, "failed read input\n"))
+    expect("a folder as input", sorted(path.name for path in folder.iterdir()), ["in.wav", "s"])
+    folder = folder_with(files)
+    expect("no folder for the output", run(folder, RENDER[:3] + ["none/out.wav"]), (7, "failed write output\n"))
+    if pathlib.Path("/dev/full").exists():
+        expect("a full output", run(folder, RENDER[:3] + ["/dev/full"]), (7, "failed write output\n"))
+        with open("/dev/full", "wb") as full:
+            expect("a full standard output", run(folder, RENDER, full)[0], 7)
+        expect("a full standard output", (folder / "out.wav").read_bytes(), files["in.wav"])
+    for path in ["s", "in.wav"]:
+        expect(f"{path} afterwards", (folder / path).read_bytes(), files[path])
+
+
+for tool in ["soxi", "ffprobe"]:
+    if not shutil.which(tool):
+        print(f"checks: {tool} is missing, and what it would tell is skipped")
+with tempfile.TemporaryDirectory() as WORK:
+    check_renderings()
+    check_example()
+    check_refusals()
+    check_faults()
+for failure in failures:
+    print("checks:", failure)
+print(f"checks: {count - len(failures)} passed, {len(failures)} failed")
+sys.exit(1 if failures else 0)
