@@ -1,4 +1,4 @@
-use Rattle.std.proofs.Common.{◌≡◌, ℕ, ◌≤◌, Bool, ◌∙◌, arith}
+use Rattle.std.proofs.Common.{ℕ, Bool, ◌∙◌, arith}
 use Rattle.vh_files.specs.Causes.{OnlyRead}
 
 -- one reading after another

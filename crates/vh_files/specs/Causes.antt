@@ -1,5 +1,5 @@
 -- Why a call on the outside failed.
-use Rattle.std.specs.Prelude.{◌≡◌, ℕ, ◌+◌, ◌-◌, ◌^◌, ◌≤◌, min, Bool, Result, OnErr, IsErr, ◌⊎◌}
+use Rattle.std.specs.Prelude.{◌≡◌, ℕ, ◌+◌, ◌-◌, ◌^◌, ◌≤◌, min, Bool, Result, OnErr, ◌⊎◌}
 
 -- A count of faults that stood at `before` has risen: it is higher, or stands at its type's end.
 abbrev pub Rose : ℕ → ℕ → Type 0

@@ -1,5 +1,5 @@
 -- Calls that fail where a list says so, by their numbers, which count from 1 for each kind of call.
-use Rattle.std.specs.Prelude.{◌≡◌, ℕ, ◌+◌, ◌-◌, ◌^◌, min, List, Contains, ◌⊎◌}
+use Rattle.std.specs.Prelude.{ℕ, ◌+◌, ◌-◌, ◌^◌, min, List, Contains}
 use Rattle.vh_files.specs.declared.due.Op.{Op}
 use Rattle.vh_files.specs.declared.due.Op.TheVariants.{Size, Read, Create, Append}
 use Rattle.vh_files.specs.declared.due.Calls.{Calls}

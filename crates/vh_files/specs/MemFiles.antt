@@ -1,5 +1,5 @@
 -- What is seen of a store of files in memory.
-use Rattle.std.specs.Prelude.{◌≡◌, ℕ, List}
+use Rattle.std.specs.Prelude.{ℕ, List}
 use Rattle.vh_files.specs.Store.{Held}
 use Rattle.vh_files.specs.declared.due.Op.{Op}
 use Rattle.vh_files.specs.declared.due.Calls.{Calls}

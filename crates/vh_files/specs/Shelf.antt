@@ -1,9 +1,8 @@
 -- Files in memory: names with keys, and the bytes under each key.
-use Rattle.std.specs.Prelude.{◌≡◌, ◌≢◌, ℕ, List, [], ◌∷◌, ◌++◌, map, Option, Some, None, if◌then◌else◌, Vec}
+use Rattle.std.specs.Prelude.{◌≡◌, ℕ, List, [], ◌∷◌, map, Option, Some, None, if◌then◌else◌, Vec}
 use Rattle.std.specs.Option.{option_map_or}
 use Rattle.std.specs.String.{string_bytes}
 use Rattle.std.specs.Str.{bytes_eq}
-use Rattle.std.specs.Coded.{Coded}
 use Rattle.std.specs.FinMap.{from_entries}
 use Rattle.std.specs.declared.alloc.Global.{Global}
 use Rattle.slab.specs.Slab.{Slab, get, ContainsKey}

@@ -1,6 +1,6 @@
 use Rattle.std.proofs.Common.{◌≡◌, ◌≢◌, set, ◌∙◌, below_more, get_or-set_other, get_or-set_same, ℕ, ◌+◌, ◌<◌, ◌≤◌, List, [], ◌∷◌, suc, zero, length, get_or, map, ℤ, pos, ◌+ℤ◌, refl, ap, arith}
 use Rattle.std.proofs.lemmas.List.{same_lists, get_or-map, length-map, get_or_default}
-use Rattle.vh_num.specs.Samples.{added, clamp_of}
+use Rattle.vh_num.specs.Samples.{added}
 
 -- the lanes before this one are summed, and the others are as they were
 pub record IsSummed (acc old src : List ℤ) (i : ℕ) : Type 0 where

@@ -1,6 +1,7 @@
 //! Fixed-point numbers of the host: normalised values, samples, and the exact mix of several sources.
 #![tactic(auto)]
 
+pub mod laws;
 mod refusal;
 mod samples;
 mod values;

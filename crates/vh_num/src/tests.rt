@@ -1,4 +1,4 @@
-use super::{ONE, Refusal, clamp, index, mix_into, norm, quant, settle};
+use super::{ONE, Refusal, clamp, index, laws, mix_into, norm, quant, settle};
 use std::test::Fail;
 use thiserror::Error;
 
@@ -11,6 +11,7 @@ fn steps_of_values(rt: HostRuntime) {
         (ONE, 1, 1, ONE),
         (12_582_912, 4, 3, 12_582_912),
         (5_592_405, 3, 1, 5_592_405),
+        (4097, 4095, 1, 4097),
         (ONE, 4095, 4095, ONE),
     ];
     for (value, steps, step, quantised) in rows {
@@ -18,8 +19,10 @@ fn steps_of_values(rt: HostRuntime) {
         assert_eq!(rt; norm(step, steps), quantised);
         assert_eq!(rt; quant(value, steps), quantised);
     }
-    assert_eq!(rt; norm(3, 4), 12_582_912);
     assert_eq!(rt; quant(1234, 0), 1234);
+    laws::index_of_norm();
+    laws::quant_twice();
+    laws::quant_within();
 }
 
 #[test]
@@ -35,6 +38,9 @@ fn sums_are_exact_until_they_settle(rt: HostRuntime) {
     settle(&acc, &mut out);
     assert_eq!(rt; out[0], 2_147_483_646);
     assert_eq!(rt; clamp(-1), -1);
+    laws::clamp_is_nearest();
+    laws::any_order();
+    laws::has_room();
 }
 
 /// A fault for the test.

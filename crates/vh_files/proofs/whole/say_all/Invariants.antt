@@ -1,4 +1,4 @@
-use Rattle.std.proofs.Common.{◌≡◌, ◌-◌, length}
+use Rattle.std.proofs.Common.{◌-◌, length}
 use Rattle.vh_files.proofs.Loops.{IsSaying}
 use Rattle.vh_files.proofs.whole.say_all.Given as goal
 

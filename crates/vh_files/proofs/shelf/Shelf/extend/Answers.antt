@@ -1,7 +1,7 @@
-use Rattle.std.proofs.Common.{◌≡◌, ℕ, List, ◌++◌, Option, Some, None, ap, sym, ◌∙◌}
+use Rattle.std.proofs.Common.{◌≡◌, Some, None, ap, sym, ◌∙◌}
 use Rattle.std.specs.Option.{option_map, is_some}
 use Rattle.std.proofs.lemmas.Bool.{false≢true}
-use Rattle.vh_files.specs.Store.{Held, told}
+use Rattle.vh_files.specs.Store.{told}
 use Rattle.vh_files.specs.Shelf.{key_in, bytes_at}
 use Rattle.vh_files.proofs.ShelfLemmas.{told-held, told-changed, told-elsewhere, OnOk-along, Grows-some}
 use Rattle.vh_files.proofs.shelf.Shelf.extend.Goals as goal

@@ -1,6 +1,6 @@
-use Rattle.std.proofs.Common.{◌≡◌, ℕ, List, Option, Some, None, Bor, ap, sym, ◌∙◌}
-use Rattle.std.specs.Option.{option_map, option_copied}
-use Rattle.vh_files.specs.Store.{Held, told}
+use Rattle.std.proofs.Common.{◌≡◌, Some, None, ap, sym, ◌∙◌}
+use Rattle.std.specs.Option.{option_map}
+use Rattle.vh_files.specs.Store.{told}
 use Rattle.vh_files.specs.Shelf.{key_in, bytes_at}
 use Rattle.vh_files.proofs.ShelfLemmas.{told-held, bytes_under, not_none}
 use Rattle.vh_files.proofs.shelf.Shelf.get.Goals as goal

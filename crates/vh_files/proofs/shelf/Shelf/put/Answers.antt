@@ -1,8 +1,5 @@
-use Rattle.std.proofs.Common.{◌≡◌, ℕ, List, ◌++◌, ◌∷◌, [], Option, Some, None, ap, sym, ◌∙◌}
-use Rattle.std.specs.String.{string_bytes}
-use Rattle.slab.specs.Slab.{get}
-use Rattle.vh_files.specs.Store.{Held, told}
-use Rattle.vh_files.specs.Shelf.{key_in, bytes_at, IsShelf}
+use Rattle.std.proofs.Common.{◌≡◌, ◌++◌, ◌∷◌, [], Some, ap, sym, ◌∙◌}
+use Rattle.vh_files.specs.Shelf.{key_in}
 use Rattle.vh_files.proofs.ShelfLemmas.{told-changed, told-elsewhere, IsShelf-put, told-put, put-elsewhere}
 use Rattle.vh_files.proofs.shelf.Shelf.put.Goals as goal
 

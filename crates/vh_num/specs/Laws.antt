@@ -1,0 +1,47 @@
+-- Laws of the definitions.
+use Rattle.std.specs.Prelude.{◌≡◌, ℕ, ◌*◌, ◌≤◌, ◌^◌, List, [], ◌∷◌, ◌++◌, length, replicate, All, ℤ, pos, neg_ℤ, ◌≤ℤ◌, ◌-◌, ◌⊎◌}
+use Rattle.vh_num.specs.Values.{index_of, norm_of, quant_of}
+use Rattle.vh_num.specs.Samples.{IsWithin, clamp_of, added}
+
+-- the step of a step's value is that step
+abbrev pub IndexOfNorm : Type 0
+IndexOfNorm = (i n : ℕ) → 1 ≤ n → n ≤ 4095 → i ≤ n → index_of (norm_of i n) n ≡ i
+
+-- to quantise twice is to quantise once
+abbrev pub QuantTwice : Type 0
+QuantTwice = (v n : ℕ) → n ≤ 4095 → quant_of (quant_of v n) n ≡ quant_of v n
+
+-- a quantised value is no more than 1.0
+abbrev pub QuantWithin : Type 0
+QuantWithin = (v n : ℕ) → v ≤ 2 ^ 24 → quant_of v n ≤ 2 ^ 24
+
+-- a number of 32 bits with sign
+pub record IsSample (x : ℤ) : Type 0 where
+  pub low : neg_ℤ (pos (2 ^ 31)) ≤ℤ x
+  pub high : x ≤ℤ pos (2 ^ 31 - 1)
+
+-- y lies between x and z
+abbrev pub IsBetween : ℤ → ℤ → ℤ → Type 0
+IsBetween x y z = ((x ≤ℤ y) × (y ≤ℤ z)) ⊎ ((z ≤ℤ y) × (y ≤ℤ x))
+
+-- the clamp of a number is a sample, and lies between the number and each sample: none is nearer
+abbrev pub ClampIsNearest : Type 0
+ClampIsNearest = (x : ℤ) → IsSample (clamp_of x) × ((y : ℤ) → IsSample y → IsBetween x (clamp_of x) y)
+
+-- the sum of these sources, one after the other
+abbrev pub summed : List ℤ → List (List ℤ) → List ℤ
+summed acc [] = acc
+summed acc (source ∷ sources) = summed (added acc source) sources
+
+-- each source has so many lanes
+abbrev pub HasLanes : ℕ → List (List ℤ) → Type 0
+HasLanes n sources = All (λ source. length source ≡ n) sources
+
+-- two sources that change places make the same sum
+abbrev pub AnyOrder : Type 0
+AnyOrder = (n : ℕ) (acc a b : List ℤ) (before behind : List (List ℤ)) → length acc ≡ n → HasLanes n before → length a ≡ n → length b ≡ n
+    → summed acc (before ++ a ∷ b ∷ behind) ≡ summed acc (before ++ b ∷ a ∷ behind)
+
+-- a sum of 255 sources has room for one more
+abbrev pub HasRoom : Type 0
+HasRoom = (n : ℕ) (sources : List (List ℤ)) → All (All (IsWithin (2 ^ 31))) sources → length sources ≤ 255 → All (IsWithin (255 * 2 ^ 31)) (summed (replicate n (pos 0)) sources)

@@ -1,0 +1,33 @@
+//! Laws of the definitions: the contracts of these functions.
+
+ghost use Rattle.vh_num.specs.Laws.{IndexOfNorm, QuantTwice, QuantWithin, ClampIsNearest, AnyOrder, HasRoom};
+
+/// The step of a step's value is that step.
+pub fn index_of_norm()
+    ensures { IndexOfNorm }
+{}
+
+/// To quantise twice is to quantise once.
+pub fn quant_twice()
+    ensures { QuantTwice }
+{}
+
+/// A quantised value is no more than 1.0.
+pub fn quant_within()
+    ensures { QuantWithin }
+{}
+
+/// The clamp of a number is a sample, and no sample is nearer.
+pub fn clamp_is_nearest()
+    ensures { ClampIsNearest }
+{}
+
+/// The order of the sources changes no sum.
+pub fn any_order()
+    ensures { AnyOrder }
+{}
+
+/// A sum of 255 sources has room for one more.
+pub fn has_room()
+    ensures { HasRoom }
+{}
