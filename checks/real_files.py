@@ -71,6 +71,34 @@ def check_renderings():
         check_by_tools(name, out, frames)
 
 
+def from_24_bits(data):
+    return [int.from_bytes(data[i : i + 3], "little", signed=True) >> 8 for i in range(0, len(data), 3)]
+
+
+def expect_16_bits(name, folder, want):
+    expect(name, run(folder, RENDER), (0, report(len(want), -(-len(want) // 64))))
+    with wave.open(str(folder / "out.wav")) as opened:
+        data = opened.readframes(opened.getnframes())
+    expect(name, list(struct.unpack(f"<{len(data) // 2}h", data)), want)
+
+
+def check_24_bits():
+    samples = [0, 255, 256, -1, -256, -257, 8388607, -8388608]
+    data = b"".join(sample.to_bytes(3, "little", signed=True) for sample in samples)
+    folder = folder_with({"s": session({1: f"length {len(samples)}"})})
+    with wave.open(str(folder / "in.wav"), "wb") as made:
+        made.setnchannels(1)
+        made.setsampwidth(3)
+        made.setframerate(44100)
+        made.writeframes(data)
+    expect_16_bits("24 bits", folder, [0, 0, 1, -1, -1, -2, 32767, -32768])
+    if shutil.which("sox"):
+        folder = folder_with({"s": session({1: "length 4410"})})
+        subprocess.run(["sox", "-R", "-n", "-r", "44100", "-b", "24", "-c", "1", "--comment", "a comment", str(folder / "in.wav"), "synth", "0.1", "sine", "440"], check=True)
+        raw = subprocess.run(["sox", str(folder / "in.wav"), "-t", "raw", "-e", "signed", "-b", "24", "-L", "-"], check=True, capture_output=True).stdout
+        expect_16_bits("24 bits, by sox", folder, from_24_bits(raw))
+
+
 def check_by_tools(name, out, frames):
     if shutil.which("soxi"):
         said = subprocess.run(["soxi", "-s", str(out)], capture_output=True, text=True)
@@ -139,11 +167,12 @@ def check_faults():
         expect(f"{path} afterwards", (folder / path).read_bytes(), files[path])
 
 
-for tool in ["soxi", "ffprobe"]:
+for tool in ["sox", "soxi", "ffprobe"]:
     if not shutil.which(tool):
         print(f"checks: {tool} is missing, and what it would tell is skipped")
 with tempfile.TemporaryDirectory() as WORK:
     check_renderings()
+    check_24_bits()
     check_example()
     check_refusals()
     check_faults()
