@@ -1,0 +1,3 @@
+pub mod Queues
+pub mod Stored
+pub mod Model

@@ -1,0 +1,10 @@
+//! Queues of parameter points, as the SDK's `IParameterChanges` and `IParamValueQueue` have them, in
+//! memory that is taken once.
+#![tactic(auto)]
+
+mod points;
+
+pub use points::Points;
+
+#[cfg(test)]
+mod tests;
