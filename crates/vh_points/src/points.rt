@@ -28,7 +28,7 @@ pub struct Points {
 }
 
 impl Points {
-    ghost use Rattle.vh_points.specs.Model.{queues_of, queue_room, point_room};
+    ghost use Rattle.vh_points.specs.Model.{queues_of, queue_room, most_points, point_room};
 
     /// No queues, with room for so many queues, at most 64, and so many points, at most 524,288.
     pub fn new(alloc: Global, queues: usize, points: usize) -> Result<Points, AllocError>
@@ -36,6 +36,7 @@ impl Points {
         requires points { points ≤ 524288 }
         ensures none { IfOk result (λ made. queues_of made ≡ []) }
         ensures queue_room { IfOk result (λ made. queue_room made ≡ queues) }
+        ensures most_points { IfOk result (λ made. most_points made ≡ points) }
         ensures point_room { IfOk result (λ made. point_room made ≡ points) }
     {
         let none = Queue {
@@ -58,6 +59,7 @@ impl Points {
         ensures number { result ≡ length (queues_of self.old) }
         ensures added { queues_of self.new ≡ queues_of self.old ++ record { id = id; points = [] } ∷ [] }
         ensures queue_room { queue_room self.new + 1 ≡ queue_room self.old }
+        ensures most_points { most_points self.new ≡ most_points self.old }
         ensures point_room { point_room self.new ≡ point_room self.old }
     {
         let q = self.count;
@@ -78,6 +80,7 @@ impl Points {
         requires follows { MayFollow (queue_at (queues_of self.old) q).points (offset, value) }
         ensures added { queues_of self.new ≡ with_point (queues_of self.old) q (offset, value) }
         ensures queue_room { queue_room self.new ≡ queue_room self.old }
+        ensures most_points { most_points self.new ≡ most_points self.old }
         ensures point_room { point_room self.new + 1 ≡ point_room self.old }
     {
         self.points[self.used] = (offset, value);
@@ -89,7 +92,8 @@ impl Points {
     pub fn clear(&mut self)
         ensures none { queues_of self.new ≡ [] }
         ensures queue_room { queue_room self.new ≡ queue_room self.old + length (queues_of self.old) }
-        ensures point_room { point_room self.old ≤ point_room self.new }
+        ensures most_points { most_points self.new ≡ most_points self.old }
+        ensures point_room { point_room self.new ≡ most_points self.old }
     {
         self.count = 0;
         self.used = 0;
