@@ -1,14 +1,19 @@
-use Rattle.std.proofs.Common.{◌≡◌, ℕ, zero, suc, ◌+◌, ◌*◌, ◌/◌, ◌^◌, ◌<◌, ◌≤◌, min, List, [], ◌∷◌, length, ℤ, pos, negsuc, ◌+ℤ◌, refl, sym, ap, ◌∙◌, inl, inr, arith}
+use Rattle.std.proofs.Common.{◌≡◌, ℕ, zero, suc, ◌+◌, ◌*◌, ◌/◌, ◌^◌, ◌<◌, ◌≤◌, min, List, [], ◌∷◌, length, get_or, map, ℤ, pos, negsuc, ◌+ℤ◌, ◌-ℤ◌, refl, sym, ap, ◌∙◌, inl, inr, arith}
 use Rattle.std.specs.Prelude.{replicate, All}
 use Rattle.std.proofs.Math.Nat.{mul-le-mul, mul-le-mul_right, mul-add, div-mul-le_self, lt-div-mul-add, div-eq_of_lt-le, div-le_of_le-mul, min-eq_left, min-eq_right}
 use Rattle.std.proofs.lemmas.Nat.{le-div}
 use Rattle.std.proofs.lemmas.Bool.{cases_lt}
 use Rattle.std.proofs.lemmas.List.Elements.{All-cons, All-head, All-nil, All-tail}
 use Rattle.std.proofs.lemmas.Int.{ints, by_lt_z}
-use Rattle.vh_num.proofs.Lanes.{length-added}
+use Rattle.std.proofs.lemmas.List.{length-map, length-replicate, get_or-replicate, get_or-map, ext_get_or}
+use Rattle.std.proofs.lemmas.List.Sorted.{sum_by-IsPermutation, All-permutation}
+use Rattle.std.specs.List.{sum_by}
+use Rattle.std.proofs.lemmas.List.Sums.{sum_by-cons}
+use Rattle.std.specs.List.Sorted.{IsPermutation}
+use Rattle.vh_num.proofs.Lanes.{length-added, get_or-added}
 use Rattle.vh_num.specs.Values.{index_of, norm_of}
 use Rattle.vh_num.specs.Samples.{IsWithin, clamp_of, added}
-use Rattle.vh_num.specs.Laws.{IndexOfNorm, QuantTwice, QuantWithin, ClampIsNearest, AnyOrder, HasRoom, summed}
+use Rattle.vh_num.specs.Laws.{IndexOfNorm, QuantTwice, QuantWithin, ClampIsNearest, MixIsClampedSum, AnyOrder, HasRoom, HasLanes, summed, sum_of, in_lane, mixed}
 
 -- a step's value is at least the number of steps less one, but at step 0
 norm_high : (i n v : ℕ) → 1 ≤ i → n ≤ 4095 → i * 16777216 < v * n + n → n ≤ v + 1
@@ -84,22 +89,71 @@ law_clamp_is_nearest (negsuc a) = (
       ],
 )
 
--- three summands in another order
-swapped : (x y z : ℤ) → (x +ℤ y) +ℤ z ≡ (x +ℤ z) +ℤ y
-swapped x y z = omega (arith, ints)
+-- a lane of the sum of some sources
+lane_of_sum : (n lane : ℕ) (acc : List ℤ) (sources : List (List ℤ)) → length acc ≡ n → HasLanes n sources → lane < n
+    → get_or (summed acc sources) lane (pos 0) ≡ get_or acc lane (pos 0) +ℤ sum_of (in_lane lane sources)
+lane_of_sum n lane acc [] long lanes within = omega (arith, ints)
+lane_of_sum n lane acc (source ∷ sources) long lanes within =
+    let as_long : length source ≡ n = All-head (λ x. length {A = ℤ} x ≡ n) source sources lanes in
+    let here = get_or-added acc source lane (omega arith) (omega arith) in
+    let rest = lane_of_sum n lane (added acc source) sources (length-added acc source ∙ long) (All-tail (λ x. length {A = ℤ} x ≡ n) source sources lanes) within in
+    omega (arith, ints, here, rest)
 
-swapped_lanes : (acc a b : List ℤ) → length acc ≡ length a → length acc ≡ length b → added (added acc a) b ≡ added (added acc b) a
-swapped_lanes [] a b m n = refl
-swapped_lanes (x ∷ xs) [] b m n = absurd (omega (arith, m))
-swapped_lanes (x ∷ xs) (y ∷ ys) [] m n = absurd (omega (arith, n))
-swapped_lanes (x ∷ xs) (y ∷ ys) (z ∷ zs) m n =
-    ap (λ h. h ∷ added (added xs ys) zs) (swapped x y z) ∙ ap (λ t. ((x +ℤ z) +ℤ y) ∷ t) (swapped_lanes xs ys zs (omega (arith, m)) (omega (arith, n)))
+length_summed : (acc : List ℤ) (sources : List (List ℤ)) → length (summed acc sources) ≡ length acc
+length_summed acc [] = refl
+length_summed acc (source ∷ sources) = length_summed (added acc source) sources ∙ length-added acc source
+
+length_mixed : (n : ℕ) (sources : List (List ℤ)) → length (mixed n sources) ≡ n
+length_mixed n sources =
+    length-map (summed (replicate n (pos 0)) sources) clamp_of ∙ length_summed (replicate n (pos 0)) sources ∙ length-replicate n (pos 0)
+
+pub law_mix_is_clamped_sum : MixIsClampedSum
+law_mix_is_clamped_sum n lane sources lanes within =
+    let long : lane < length (summed (replicate n (pos 0)) sources) =
+    omega (arith, length_summed (replicate n (pos 0)) sources, length-replicate n (pos 0), within) in
+    let sum = lane_of_sum n lane (replicate n (pos 0)) sources (length-replicate n (pos 0)) lanes within in
+    let silence = get_or-replicate n lane (pos 0) (pos 0) within in
+    get_or-map clamp_of (summed (replicate n (pos 0)) sources) lane (pos 0) (pos 0) long
+    ∙ ap clamp_of (sum ∙ omega (arith, ints, silence))
+
+-- an exact sum is what lies above zero less what lies below
+above : ℤ → ℕ
+above (pos n) = n
+above (negsuc n) = 0
+
+below : ℤ → ℕ
+below (pos n) = 0
+below (negsuc n) = suc n
+
+in_parts : (x : ℤ) → x ≡ pos (above x) -ℤ pos (below x)
+unfolding above below
+in_parts (pos n) = omega (arith, ints)
+in_parts (negsuc n) = omega (arith, ints)
+
+joined_parts : (x s : ℤ) (a b p q : ℕ) → x ≡ pos a -ℤ pos b → s ≡ pos p -ℤ pos q → x +ℤ s ≡ pos (a + p) -ℤ pos (b + q)
+joined_parts x s a b p q d e = omega (arith, ints, d, e)
+
+sum_in_parts : (f : List ℤ → ℤ) (sources : List (List ℤ)) → sum_of (map f sources) ≡ pos (sum_by (λ s. above (f s)) sources) -ℤ pos (sum_by (λ s. below (f s)) sources)
+sum_in_parts f [] = refl
+sum_in_parts f (source ∷ sources) =
+    rw (sum_by-cons (λ s. above (f s)) source sources, sum_by-cons (λ s. below (f s)) source sources)
+    (joined_parts (f source) (sum_of (map f sources)) (above (f source)) (below (f source)) (sum_by (λ s. above (f s)) sources) (sum_by (λ s. below (f s)) sources) (in_parts (f source)) (sum_in_parts f sources))
+
+same_sum : (f : List ℤ → ℤ) (sources others : List (List ℤ)) → IsPermutation sources others → sum_of (map f others) ≡ sum_of (map f sources)
+same_sum f sources others order =
+    let up = sum_by-IsPermutation (λ s. above (f s)) sources others order in
+    let down = sum_by-IsPermutation (λ s. below (f s)) sources others order in
+    let one = sum_in_parts f sources in
+    let other = sum_in_parts f others in
+    omega (arith, ints, up, down, one, other)
 
 pub law_any_order : AnyOrder
-law_any_order n acc a b [] behind acc_lanes lanes a_lanes b_lanes =
-    ap (λ sum. summed sum behind) (swapped_lanes acc a b (acc_lanes ∙ sym a_lanes) (acc_lanes ∙ sym b_lanes))
-law_any_order n acc a b (source ∷ before) behind acc_lanes lanes a_lanes b_lanes =
-    law_any_order n (added acc source) a b before behind (length-added acc source ∙ acc_lanes) (All-tail (λ x. length {A = ℤ} x ≡ n) source before lanes) a_lanes b_lanes
+law_any_order n sources others lanes order =
+    ext_get_or (pos 0) (mixed n others) (mixed n sources) (length_mixed n others ∙ sym (length_mixed n sources)) (λ lane h.
+    let within : lane < n = omega (arith, length_mixed n others, h) in
+    law_mix_is_clamped_sum n lane others (All-permutation (λ x. length {A = ℤ} x ≡ n) sources others order lanes) within
+    ∙ ap clamp_of (same_sum (λ source. get_or source lane (pos 0)) sources others order)
+    ∙ sym (law_mix_is_clamped_sum n lane sources lanes within))
 
 -- a wider range
 wider : (b c : ℕ) (x : ℤ) → b ≤ c → IsWithin b x → IsWithin c x

@@ -1,5 +1,6 @@
 -- Laws of the definitions.
-use Rattle.std.specs.Prelude.{◌≡◌, ℕ, ◌*◌, ◌≤◌, ◌^◌, List, [], ◌∷◌, ◌++◌, length, replicate, All, ℤ, pos, neg_ℤ, ◌≤ℤ◌, ◌-◌, ◌⊎◌}
+use Rattle.std.specs.Prelude.{◌≡◌, ℕ, ◌*◌, ◌≤◌, ◌<◌, ◌^◌, List, [], ◌∷◌, length, replicate, map, slice_index_or, All, ℤ, pos, neg_ℤ, ◌+ℤ◌, ◌≤ℤ◌, ◌-◌, ◌⊎◌}
+use Rattle.std.specs.List.Sorted.{IsPermutation}
 use Rattle.vh_num.specs.Values.{index_of, norm_of, quant_of}
 use Rattle.vh_num.specs.Samples.{IsWithin, clamp_of, added}
 
@@ -37,10 +38,27 @@ summed acc (source ∷ sources) = summed (added acc source) sources
 abbrev pub HasLanes : ℕ → List (List ℤ) → Type 0
 HasLanes n sources = All (λ source. length source ≡ n) sources
 
--- two sources that change places make the same sum
+-- the exact sum of numbers
+abbrev pub sum_of : List ℤ → ℤ
+sum_of [] = pos 0
+sum_of (x ∷ xs) = x +ℤ sum_of xs
+
+-- what each source has in this lane
+abbrev pub in_lane : ℕ → List (List ℤ) → List ℤ
+in_lane lane sources = map (λ source. slice_index_or source lane (pos 0)) sources
+
+-- sources that are added to silence one after the other, and then settled
+abbrev pub mixed : ℕ → List (List ℤ) → List ℤ
+mixed n sources = map clamp_of (summed (replicate n (pos 0)) sources)
+
+-- each lane of a mix is the clamp of the exact sum of what the sources have in it
+abbrev pub MixIsClampedSum : Type 0
+MixIsClampedSum = (n lane : ℕ) (sources : List (List ℤ)) → HasLanes n sources → lane < n
+    → slice_index_or (mixed n sources) lane (pos 0) ≡ clamp_of (sum_of (in_lane lane sources))
+
+-- sources in another order make the same mix
 abbrev pub AnyOrder : Type 0
-AnyOrder = (n : ℕ) (acc a b : List ℤ) (before behind : List (List ℤ)) → length acc ≡ n → HasLanes n before → length a ≡ n → length b ≡ n
-    → summed acc (before ++ a ∷ b ∷ behind) ≡ summed acc (before ++ b ∷ a ∷ behind)
+AnyOrder = (n : ℕ) (sources others : List (List ℤ)) → HasLanes n sources → IsPermutation sources others → mixed n others ≡ mixed n sources
 
 -- a sum of 255 sources has room for one more
 abbrev pub HasRoom : Type 0

@@ -1,6 +1,6 @@
 //! Laws of the definitions: the contracts of these functions.
 
-ghost use Rattle.vh_num.specs.Laws.{IndexOfNorm, QuantTwice, QuantWithin, ClampIsNearest, AnyOrder, HasRoom};
+ghost use Rattle.vh_num.specs.Laws.{IndexOfNorm, QuantTwice, QuantWithin, ClampIsNearest, MixIsClampedSum, AnyOrder, HasRoom};
 
 /// The step of a step's value is that step.
 pub fn index_of_norm()
@@ -22,7 +22,12 @@ pub fn clamp_is_nearest()
     ensures { ClampIsNearest }
 {}
 
-/// The order of the sources changes no sum.
+/// Each lane of a mix is the clamp of the exact sum over the sources.
+pub fn mix_is_clamped_sum()
+    ensures { MixIsClampedSum }
+{}
+
+/// The order of the sources changes no mix.
 pub fn any_order()
     ensures { AnyOrder }
 {}

@@ -39,6 +39,7 @@ fn sums_are_exact_until_they_settle(rt: HostRuntime) {
     assert_eq!(rt; out[0], 2_147_483_646);
     assert_eq!(rt; clamp(-1), -1);
     laws::clamp_is_nearest();
+    laws::mix_is_clamped_sum();
     laws::any_order();
     laws::has_room();
 }

@@ -12,8 +12,11 @@ pub fn index(v: u32, n: u32) -> u32
     requires steps { n ≤ 4095 }
     ensures { result ≡ index_of v n }
 {
-    let part = u64::from(v) * u64::from(n + 1) / u64::from(ONE);
-    part.min(u64::from(n)) as u32
+    if v < ONE {
+        (u64::from(v) * u64::from(n + 1) / u64::from(ONE)) as u32
+    } else {
+        n
+    }
 }
 
 /// The normalised value, 0 to [`ONE`], of step `i` of a parameter of step count `n`.
