@@ -1,4 +1,4 @@
-use Rattle.std.proofs.Common.{◌≡◌, ◌≢◌, ℕ, List, [], ◌∷◌, ◌++◌, Option, Some, None, true, false, cond, Result, Ok, Err, refl, sym, ap, subst, ◌∙◌, ◌⊎◌, inl, inr, ⊎_elim}
+use Rattle.std.proofs.Common.{◌≡◌, ◌≢◌, ℕ, List, [], ◌∷◌, ◌++◌, Option, Some, None, true, false, not, cond, Result, Ok, Err, refl, sym, ap, subst, ◌∙◌, ◌⊎◌, inl, inr, ⊎_elim}
 use Rattle.std.proofs.lemmas.Bool.{cases_eq, false≢true, false_from_ne_true}
 use Rattle.std.specs.Option.{option_map, option_map_or, is_some}
 use Rattle.std.specs.Result.{OnOk, is_err}
@@ -12,7 +12,8 @@ use Rattle.std.proofs.lemmas.Map.Text.{is_eq-slice_cmp}
 use Rattle.std.proofs.lemmas.Slice.Eq.{bytes_eq-Decides}
 use Rattle.slab.specs.Slab.{Slab, get, ContainsKey, Updates}
 use Rattle.vh_files.specs.Store.{told, SameElsewhere, Grows}
-use Rattle.vh_files.specs.Shelf.{Bytes, key_in, bytes_at, entries_in, held_in, IsShelf}
+use Rattle.std.specs.List.{filter}
+use Rattle.vh_files.specs.Shelf.{Bytes, key_in, bytes_at, entries_in, held_in, has_other_name, IsShelf}
 use Rattle.vh_files.specs.declared.shelf.Named.{Named}
 
 find-entries : (slab : Slab Bytes) (names : List Named) (name : List ℕ) → find (slice_cmp nat_cmp) name (entries_in slab names) ≡ option_map (bytes_at slab) (key_in names name)
@@ -181,3 +182,59 @@ Grows-some old new had more was is = let P : Option (List ℕ) → Type 0 = λ o
 pub from_ok : {T E : Type 0} (result : Result T E) (P : Type 0) → is_err result ≡ false → OnOk result P → P
 from_ok (Ok x) P e h = h
 from_ok (Err x) P e h = absurd (false≢true (sym e))
+
+none_some : (key : ℕ) → None ≢ Some key
+none_some key e = cc
+
+bytes_differ : (xs ys : List ℕ) → bytes_eq xs ys ≡ false → bytes_eq ys xs ≡ false
+bytes_differ xs ys e = false_from_ne_true _ (λ h. false≢true (sym e ∙ (bytes_eq-Decides xs ys).1 (sym ((bytes_eq-Decides ys xs).0 h))))
+
+-- a name that is taken away has no key
+key_in-forgotten : (names : List Named) (name : List ℕ) → key_in (filter (has_other_name name) names) name ≡ None
+key_in-forgotten [] name = refl
+key_in-forgotten (n ∷ ns) name =
+    elim (bytes_eq (string_bytes n.name) name) as (λ b. bytes_eq (string_bytes n.name) name ≡ b → key_in (cond (not b) (n ∷ filter (has_other_name name) ns) (filter (has_other_name name) ns)) name ≡ None) [
+      | true ↦ λ e. key_in-forgotten ns name
+      | false ↦ λ e.
+          let differs : bytes_eq name (string_bytes n.name) ≡ false = bytes_differ (string_bytes n.name) name e in
+          rw differs (key_in-forgotten ns name)
+    ] refl
+
+-- and every other name has the key that it had
+key_in-kept : (names : List Named) (name other : List ℕ) → other ≢ name → key_in (filter (has_other_name name) names) other ≡ key_in names other
+key_in-kept [] name other apart = refl
+key_in-kept (n ∷ ns) name other apart =
+    elim (bytes_eq (string_bytes n.name) name) as (λ b. bytes_eq (string_bytes n.name) name ≡ b → key_in (cond (not b) (n ∷ filter (has_other_name name) ns) (filter (has_other_name name) ns)) other ≡ cond (bytes_eq other (string_bytes n.name)) (Some n.key) (key_in ns other)) [
+      | true ↦ λ e.
+          let same : string_bytes n.name ≡ name = (bytes_eq-Decides (string_bytes n.name) name).0 e in
+          let differs : bytes_eq other (string_bytes n.name) ≡ false = false_from_ne_true _ (λ h. apart ((bytes_eq-Decides other (string_bytes n.name)).0 h ∙ same)) in
+          rw differs (key_in-kept ns name other apart)
+      | false ↦ λ e. ap (λ rest. cond (bytes_eq other (string_bytes n.name)) (Some n.key) rest) (key_in-kept ns name other apart)
+    ] refl
+
+-- the shelf after a file was taken away
+module _ (old new : Slab Bytes) (names after : List Named) (name : List ℕ) (key : ℕ) (shelf : IsShelf old names) (at : key_in names name ≡ Some key) (updates : Updates old new key None) (forgets : after ≡ filter (has_other_name name) names) where
+  none_left : key_in after name ≡ None
+  none_left = ap (λ ns. key_in ns name) forgets ∙ key_in-forgotten names name
+
+  same_key : (other : List ℕ) → other ≢ name → key_in after other ≡ key_in names other
+  same_key other differs = ap (λ ns. key_in ns other) forgets ∙ key_in-kept names name other differs
+
+  not_gone : (one : List ℕ) (k : ℕ) → key_in after one ≡ Some k → one ≢ name
+  not_gone one k h e = absurd (none_some k (sym none_left ∙ ap (key_in after) (sym e) ∙ h))
+
+  pub IsShelf-removed : IsShelf new after
+  IsShelf-removed = record {
+    found = λ one k h.
+        let was : key_in names one ≡ Some k = sym (same_key one (not_gone one k h)) ∙ h in
+        let differs : k ≢ key = λ e. not_gone one k h (shelf.apart one name key (was ∙ ap Some e) at) in
+        ContainsKey-along old new k (updates.others k differs) (shelf.found one k was);
+    apart = λ one other k h i. shelf.apart one other k (sym (same_key one (not_gone one k h)) ∙ h) (sym (same_key other (not_gone other k i)) ∙ i);
+  }
+
+  pub told-removed : told (held_in new after) name ≡ None
+  told-removed = told-held new after name ∙ ap (option_map (bytes_at new)) none_left
+
+  pub removed-elsewhere : SameElsewhere name (held_in old names) (held_in new after)
+  removed-elsewhere = λ other differs. same_told old new names after other (same_key other differs)
+      (λ k h. updates.others k (λ e. differs (shelf.apart other name key (h ∙ ap Some e) at)))

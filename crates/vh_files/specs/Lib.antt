@@ -4,3 +4,4 @@ pub mod Due
 pub mod Fields
 pub mod MemFiles
 pub mod Shelf
+pub mod SureFiles

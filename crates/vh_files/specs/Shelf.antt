@@ -1,5 +1,5 @@
 -- Files in memory: names with keys, and the bytes under each key.
-use Rattle.std.specs.Prelude.{◌≡◌, ℕ, List, [], ◌∷◌, map, Option, Some, None, if◌then◌else◌, Vec}
+use Rattle.std.specs.Prelude.{◌≡◌, ℕ, List, [], ◌∷◌, map, Option, Some, None, if◌then◌else◌, Vec, Bool, not}
 use Rattle.std.specs.Option.{option_map_or}
 use Rattle.std.specs.String.{string_bytes}
 use Rattle.std.specs.Str.{bytes_eq}
@@ -16,6 +16,10 @@ Bytes = Vec ℕ Global
 abbrev pub key_in : List Named → List ℕ → Option ℕ
 key_in [] name = None
 key_in (n ∷ ns) name = if bytes_eq name (string_bytes n.name) then Some n.key else key_in ns name
+
+-- an entry with another name than this
+abbrev pub has_other_name : List ℕ → Named → Bool
+has_other_name name n = not (bytes_eq (string_bytes n.name) name)
 
 -- the bytes under a key, none where it has no value
 abbrev pub bytes_at : Slab Bytes → ℕ → List ℕ

@@ -7,6 +7,7 @@ mod fields;
 mod mem;
 mod outside;
 mod shelf;
+mod sure;
 mod whole;
 
 pub use disk::{DiskFiles, OutSay};
@@ -14,6 +15,7 @@ pub use due::Op;
 pub use fields::{field16, field32, field64};
 pub use mem::{MemFiles, MemSay};
 pub use outside::{Failed, Files, Gate, Say};
+pub use sure::{SureFiles, SureSay};
 pub use whole::{append_all, fill, say_all};
 
 #[cfg(test)]

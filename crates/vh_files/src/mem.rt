@@ -180,7 +180,7 @@ impl Files for MemFiles {
 }
 
 /// Copies bytes from place `at` on, as many as there are and fit.
-fn copy_from(bytes: &[u8], at: u64, buf: &mut [u8]) -> usize
+pub fn copy_from(bytes: &[u8], at: u64, buf: &mut [u8]) -> usize
     ensures bytes { take result buf.new ≡ take result (drop at bytes.now) }
     ensures full { result ≡ min (length buf.new) (length (drop at bytes.now)) }
 {

@@ -79,6 +79,17 @@ impl Shelf {
         Ok(())
     }
 
+    /// Takes a file away.
+    pub fn remove(&mut self, name: &str)
+        ensures gone { told self.new name.now ≡ None }
+        ensures others { SameElsewhere name.now self.old self.new }
+    {
+        if let Some(key) = key_of(self.names.as_slice(), name) {
+            drop(self.bytes.remove(key));
+            forget(&mut self.names, name);
+        }
+    }
+
     /// Adds bytes to the end of a file that is there.
     pub fn extend(&mut self, name: &str, more: &[u8]) -> Result<(), AllocError>
         requires { IsSome (told self.old name.now) }
@@ -94,7 +105,8 @@ impl Shelf {
 }
 
 ghost use Rattle.std.specs.Prelude.{List};
-ghost use Rattle.vh_files.specs.Shelf.{key_in, bytes_at};
+ghost use Rattle.std.specs.List.{filter};
+ghost use Rattle.vh_files.specs.Shelf.{key_in, bytes_at, has_other_name};
 
 /// The key of the first of `names` that is `name`.
 fn key_of(names: &[Named], name: &str) -> Option<usize>
@@ -106,6 +118,13 @@ fn key_of(names: &[Named], name: &str) -> Option<usize>
         }
     }
     None
+}
+
+/// Takes a name away.
+fn forget(names: &mut Vec<Named>, name: &str)
+    ensures { names.new.items ≡ filter (has_other_name name.now) names.old.items }
+{
+    names.retain(|named| named.name.as_str() != name);
 }
 
 /// Puts `bytes` in place of those under a key.

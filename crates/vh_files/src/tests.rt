@@ -1,6 +1,6 @@
 use super::{
-    DiskFiles, Failed, Files, MemFiles, MemSay, Op, OutSay, Say, append_all, field16, field32,
-    field64, fill, say_all,
+    DiskFiles, Failed, Files, MemFiles, MemSay, Op, OutSay, Say, SureFiles, SureSay, append_all,
+    field16, field32, field64, fill, say_all,
 };
 use std::test::Fail;
 
@@ -72,6 +72,30 @@ fn a_text_in_memory_is_said(rt: HostRuntime) -> Result<(), Fail> {
     assert_eq!(rt; say.write(b"cd"), Err(Failed));
     assert_eq!(rt; say_all(&mut say, b"ef"), Ok(()));
     assert_eq!(rt; say.said(), b"abef".as_slice());
+    Ok(())
+}
+
+#[test]
+fn a_sure_store_drops_what_is_written(rt: HostRuntime) -> Result<(), Fail> {
+    let alloc = rt.alloc();
+    let mut files = SureFiles::new(alloc)?;
+    files.put(alloc, "a", Vec::from_slice(alloc, b"abc")?)?;
+    files.put(alloc, "b", Vec::from_slice(alloc, b"de")?)?;
+    assert_eq!(rt; files.size("a"), Ok(3));
+    let mut buf = [0u8; 4];
+    assert_eq!(rt; files.read("a", 1, &mut buf), Ok(2));
+    assert_eq!(rt; &buf[..2], b"bc".as_slice());
+    assert_eq!(rt; files.size("c"), Ok(0));
+    assert_eq!(rt; files.read("c", 0, &mut buf), Ok(0));
+    assert_eq!(rt; files.append("a", b"xyz"), Ok(3));
+    assert_eq!(rt; files.get("a"), None);
+    assert_eq!(rt; files.size("a"), Ok(0));
+    assert_eq!(rt; files.create("b"), Ok(()));
+    assert_eq!(rt; files.size("b"), Ok(0));
+    files.put(alloc, "b", Vec::from_slice(alloc, b"f")?)?;
+    assert_eq!(rt; files.get("b"), Some(b"f".as_slice()));
+    let mut say = SureSay::new();
+    assert_eq!(rt; say_all(&mut say, b"text"), Ok(()));
     Ok(())
 }
 
