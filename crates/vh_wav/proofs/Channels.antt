@@ -15,7 +15,7 @@ window_in_front rest room k n fits =
     ap (λ m. take n (drop k (take m rest))) (sym sum) ∙ ap (take n) (drop-take k (room - k) rest) ∙ take-take n (room - k) (drop k rest) (omega arith)
 
 -- equal bytes are equal samples
-same_sample : (bits : ℕ) (xs ys : List ℕ) (i j : ℕ) → (bits ≡ 16) ⊎ (bits ≡ 24) → take (bits / 8) (drop i xs) ≡ take (bits / 8) (drop j ys) → sample_at bits xs i ≡ sample_at bits ys j
+pub same_sample : (bits : ℕ) (xs ys : List ℕ) (i j : ℕ) → (bits ≡ 16) ⊎ (bits ≡ 24) → take (bits / 8) (drop i xs) ≡ take (bits / 8) (drop j ys) → sample_at bits xs i ≡ sample_at bits ys j
 same_sample bits xs ys i j width e =
     let P : ℕ → Type 0 = λ b. take (b / 8) (drop i xs) ≡ take (b / 8) (drop j ys) → sample_at b xs i ≡ sample_at b ys j in
     ⊎_elim

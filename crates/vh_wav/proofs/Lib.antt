@@ -3,3 +3,5 @@ pub mod Walk
 pub mod Grow
 pub mod Whole
 pub mod Channels
+pub mod Numbers
+pub mod ReadBack

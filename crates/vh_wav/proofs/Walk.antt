@@ -29,10 +29,10 @@ lt_false : (a b : ℕ) → b ≤ a → ltb a b ≡ false
 lt_false a b h = elim (ltb a b) as (λ t. (t ≡ true → a < b) → t ≡ false) [ true ↦ λ f. absurd (let lt : a < b = f refl in omega arith) | false ↦ λ f. refl ] (Decides-ltb a b).0
 
 -- how far the next chunk is
-abbrev step_of : List ℕ → ℕ
+abbrev pub step_of : List ℕ → ℕ
 step_of bytes = 8 + (field_at bytes 4 4 + field_at bytes 4 4 % 2)
 
-chunks_next : (at : ℕ) (bytes : List ℕ) → 8 ≤ length bytes → chunks_after 0 at bytes ≡ chunk_at at bytes ∷ chunks_after 0 (at + step_of bytes) (drop (step_of bytes) bytes)
+pub chunks_next : (at : ℕ) (bytes : List ℕ) → 8 ≤ length bytes → chunks_after 0 at bytes ≡ chunk_at at bytes ∷ chunks_after 0 (at + step_of bytes) (drop (step_of bytes) bytes)
 chunks_next at [] h = absurd (omega arith)
 chunks_next at (b ∷ bs) h =
     let size = field_at (b ∷ bs) 4 4 in

@@ -3,3 +3,4 @@ pub mod Judged
 pub mod Samples
 pub mod Heads
 pub mod Text
+pub mod Laws

@@ -4,6 +4,7 @@
 mod chunk;
 mod frames;
 mod head;
+pub mod laws;
 mod text;
 
 pub use frames::read_frames;

@@ -1,4 +1,4 @@
-use super::{Head, HeadRefused, WavFault, frame_bytes, head_bytes, read_frames, read_head};
+use super::{Head, HeadRefused, WavFault, frame_bytes, head_bytes, laws, read_frames, read_head};
 use std::alloc::{AllocError, Global};
 use std::test::Fail;
 use vh_files::{Files, MemFiles};
@@ -137,18 +137,94 @@ fn faults_are_told_in_their_order(rt: HostRuntime) -> Result<(), Fail> {
     for (at, byte, fault) in stereo {
         assert_eq!(rt; fault_of(&rt, STEREO, at, byte)?, Some(fault), "at {at}");
     }
+    Ok(())
+}
+
+#[test]
+fn each_prefix_has_its_fault(rt: HostRuntime) -> Result<(), Fail> {
     let prefixes = [
-        (0, WavFault::NotRiff),
-        (11, WavFault::NotRiff),
-        (12, WavFault::NoFmt),
-        (19, WavFault::NoFmt),
-        (20, WavFault::Truncated),
-        (36, WavFault::NoData),
-        (43, WavFault::NoData),
-        (49, WavFault::Truncated),
+        (0, 12, WavFault::NotRiff),
+        (12, 20, WavFault::NoFmt),
+        (20, 36, WavFault::Truncated),
+        (36, 44, WavFault::NoData),
+        (44, 50, WavFault::Truncated),
     ];
-    for (n, fault) in prefixes {
-        assert_eq!(rt; fault_of(&rt, &MONO[..n], 99, 0)?, Some(fault), "of {n}");
+    for (from, to, fault) in prefixes {
+        for n in from..to {
+            let prefix = MONO.get(..n).unwrap_or(b"");
+            assert_eq!(rt; fault_of(&rt, prefix, 99, 0)?, Some(fault), "of {n}");
+        }
     }
+    assert_eq!(rt; fault_of(&rt, MONO, 99, 0)?, None);
+    Ok(())
+}
+
+/// The head of a file of these chunks.
+fn head_of(alloc: Global, parts: [&[u8]; 3]) -> Result<Result<Head, HeadRefused>, AllocError> {
+    let mut bytes = Vec::from_slice(alloc, b"RIFF\0\0\0\0WAVE")?;
+    for part in parts {
+        bytes.extend_from_slice(part)?;
+    }
+    let mut files = store(alloc, bytes.as_slice(), 0, b'R')?;
+    Ok(read(&mut files, &mut []))
+}
+
+#[test]
+fn the_first_format_and_the_first_samples_count(rt: HostRuntime) -> Result<(), Fail> {
+    let alloc = rt.alloc();
+    let format = &MONO[12..36];
+    let eight_bits = b"fmt \x10\0\0\0\x01\0\x01\0\x80\xbb\0\0\x80\xbb\0\0\x01\0\x08\0";
+    let no_rate = b"fmt \x10\0\0\0\x01\0\x01\0\0\0\0\0\x80\xbb\0\0\x02\0\x10\0";
+    let high_rate = b"fmt \x10\0\0\0\x01\0\x01\0\x01\xb8\x0b\0\x80\xbb\0\0\x02\0\x10\0";
+    let two = b"data\x02\0\0\0\x01\0data\x04\0\0\0\x01\0\x02\0";
+    let head = Head {
+        channels: 1,
+        rate: 48_000,
+        bits: 16,
+        at: 68,
+        frames: 1,
+    };
+    assert_eq!(rt;
+        head_of(alloc, [two, format, b""])?,
+        Err(HeadRefused::Wav(WavFault::NoFmt))
+    );
+    assert_eq!(rt; head_of(alloc, [format, eight_bits, two])?, Ok(head));
+    assert_eq!(rt;
+        head_of(alloc, [eight_bits, format, two])?,
+        Err(HeadRefused::Wav(WavFault::Unsupported(1, 8)))
+    );
+    assert_eq!(rt;
+        head_of(alloc, [no_rate, two, b""])?,
+        Err(HeadRefused::Wav(WavFault::BadFmt))
+    );
+    assert_eq!(rt;
+        head_of(alloc, [high_rate, two, b""])?,
+        Err(HeadRefused::Wav(WavFault::Unsupported(1, 16)))
+    );
+    // The last pad byte may be missing, and a part of a frame doesn't count.
+    assert_eq!(rt;
+        head_of(alloc, [format, b"LIST\x05\0\0\0abcde", b""])?,
+        Err(HeadRefused::Wav(WavFault::NoData))
+    );
+    assert_eq!(rt;
+        head_of(
+            alloc,
+            [
+                format,
+                b"LIST\x05\0\0\0abcde\0",
+                b"data\x03\0\0\0\x01\0\x02"
+            ]
+        )?,
+        Ok(Head { at: 58, ..head })
+    );
+    assert_eq!(rt;
+        head_of(alloc, [format, b"LIST\xff\xff\xff\xffab", two])?,
+        Err(HeadRefused::Wav(WavFault::Truncated))
+    );
+    assert_eq!(rt;
+        head_of(alloc, [format, b"data\xff\xff\xff\xff\x01\0", b""])?,
+        Err(HeadRefused::Wav(WavFault::Truncated))
+    );
+    laws::written_is_read();
     Ok(())
 }

@@ -100,6 +100,17 @@ fn inputs_that_depart(rt: HostRuntime) -> Result<(), Fail> {
         assert_eq!(rt; say.said(), said.as_bytes());
         assert_eq!(rt; files.get("out.wav"), None);
     }
+    let mut stereo = Vec::from_slice(alloc, INPUT)?;
+    stereo[22] = 2;
+    stereo[32] = 4;
+    let mut files = store(alloc, session_with(alloc, 9, "")?, stereo.as_slice())?;
+    let mut say = MemSay::new(alloc)?;
+    assert_eq!(rt;
+        render(alloc, &mut files, &mut say)?,
+        Status::WavRefused(WavFault::OtherChannels(2))
+    );
+    assert_eq!(rt; say.said(), b"refused wav 7\n".as_slice());
+    assert_eq!(rt; files.get("out.wav"), None);
     Ok(())
 }
 
