@@ -1,5 +1,5 @@
 use Rattle.std.proofs.Common.{◌≡◌, ◌≢◌, set, ℕ, zero, suc, ◌+◌, ◌<◌, ◌≤◌, ◌^◌, List, [], ◌∷◌, ◌++◌, length, get_or, get_or-set_other, get_or-set_same, take, drop, refl, sym, ap, subst, ◌∙◌, inl, inr, arith}
-use Rattle.std.proofs.lemmas.List.{get_or_append_left, get_or_default}
+use Rattle.std.proofs.lemmas.List.{get_or_append_left, get_or_default, get_or-map, length-map}
 use Rattle.std.proofs.lemmas.Bool.{cases_lt}
 use Rattle.vh_points.specs.declared.points.Queue.{Queue as Stored}
 use Rattle.vh_points.specs.Queues.{Queue, MayFollow, IsRising, LacksId, AreLawful, no_queue, queue_at, longer, with_point}
@@ -205,3 +205,17 @@ pub queue_added : (points : List (ℕ × ℕ)) (stored : List Stored) (count : �
 queue_added points stored count s room =
     let top : suc count ≡ count + 1 = omega arith in
     subst (λ n. queues_in (set stored count s) points n ≡ queues_in stored points count ++ queue_in points s ∷ []) top (queues_more points stored count s room)
+
+-- the ids of the queues are those that are stored
+module _ (points : List (ℕ × ℕ)) (stored : List Stored) (count : ℕ) (id : ℕ) where
+  id_of : (i : ℕ) (d : Queue) (e : Stored) → i < length (take count stored) → (get_or (queues_in stored points count) i d).id ≡ (get_or (take count stored) i e).id
+  id_of i d e lt = ap (λ (q : Queue). q.id) (get_or-map (queue_in points) (take count stored) i e d lt)
+
+  pub lacks_from : ((i : ℕ) (e : Stored) → i < length (take count stored) → (get_or (take count stored) i e).id ≢ id) → LacksId (queues_in stored points count) id
+  lacks_from each = λ i d lt same.
+      let e : Stored = record { id = 0; start = 0; size = 0 } in
+      let within : i < length (take count stored) = omega (arith, length-map (take count stored) (queue_in points)) in
+      each i e within (sym (id_of i d e within) ∙ same)
+
+  pub lacks_stored : LacksId (queues_in stored points count) id → (i : ℕ) (e : Stored) → i < length (take count stored) → (get_or (take count stored) i e).id ≢ id
+  lacks_stored lacks = λ i e lt same. lacks i no_queue (omega (arith, length-map (take count stored) (queue_in points))) (id_of i no_queue e lt ∙ same)

@@ -2,6 +2,7 @@
 //! memory that is taken once.
 #![tactic(auto)]
 
+pub mod laws;
 mod points;
 
 pub use points::Points;

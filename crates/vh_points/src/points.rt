@@ -1,4 +1,5 @@
-ghost use Rattle.std.specs.Prelude.{◌≡◌, ◌≤◌, ◌<◌, ◌+◌, ◌-◌, ◌++◌, ◌^◌, [], ◌∷◌, length, IfOk, slice_index_or};
+ghost use Rattle.std.specs.Prelude.{◌≡◌, ◌≢◌, ◌↔◌, IsTrue, ℕ, ◌≤◌, ◌<◌, ◌+◌, ◌-◌, ◌++◌, ◌^◌, [], ◌∷◌, length, IfOk, slice_index_or};
+ghost use Rattle.vh_points.specs.declared.points.Queue.{Queue as Stored};
 ghost use Rattle.vh_points.specs.Queues.{AreLawful, LacksId, MayFollow, queue_at, with_point};
 ghost use Rattle.vh_points.specs.Stored.{queues_in, ArePlaced};
 
@@ -10,6 +11,18 @@ struct Queue {
     id: u32,
     start: usize,
     size: usize,
+}
+
+/// Whether none of these queues has this id.
+fn lacks_id(queues: &[Queue], id: u32) -> bool
+    ensures { IsTrue result ↔ ((i : ℕ) (d : Stored) → i < length queues.now → (slice_index_or queues.now i d).id ≢ id) }
+{
+    for queue in queues {
+        if queue.id == id {
+            return false;
+        }
+    }
+    true
 }
 
 /// Queues of points: of each parameter at most one, with offsets that rise and no value twice running.
@@ -86,6 +99,41 @@ impl Points {
         self.points[self.used] = (offset, value);
         self.queues[q].size += 1;
         self.used += 1;
+    }
+
+    /// How many more queues there is room for.
+    pub fn free_queues(&self) -> usize
+        ensures { result ≡ queue_room self.now }
+    {
+        self.queues.len() - self.count
+    }
+
+    /// How many more points there is room for.
+    pub fn free_points(&self) -> usize
+        ensures { result ≡ point_room self.now }
+    {
+        self.points.len() - self.used
+    }
+
+    /// Whether no queue is a parameter's.
+    pub fn lacks(&self, id: u32) -> bool
+        ensures { IsTrue result ↔ LacksId (queues_of self.now) id }
+    {
+        lacks_id(&self.queues[..self.count], id)
+    }
+
+    /// Whether a point may stand behind a queue's points: its offset is above the last one's, and its
+    /// value is another.
+    pub fn may_follow(&self, q: usize, offset: u32, value: u32) -> bool
+        requires { q < length (queues_of self.now) }
+        ensures { IsTrue result ↔ MayFollow (queue_at (queues_of self.now) q).points (offset, value) }
+    {
+        let (_, size) = self.queue(q);
+        if size == 0 {
+            return true;
+        }
+        let (last_offset, last_value) = self.point(q, size - 1);
+        last_offset < offset && last_value != value
     }
 
     /// Takes all queues away.
