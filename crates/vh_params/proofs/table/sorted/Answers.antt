@@ -1,0 +1,7 @@
+use Rattle.std.proofs.Common.{rules}
+use Rattle.std.proofs.lemmas.List.Sorted.{IsNonDecreasingBy-from_sort_by_key}
+use Rattle.vh_params.specs.declared.param.ParamInfo.{ParamInfo}
+use Rattle.vh_params.proofs.table.sorted.Goals as goal
+
+pub returns-clause-rising : goal.returns-clause-rising
+returns-clause-rising c = IsNonDecreasingBy-from_sort_by_key (λ (param : ParamInfo). param.id) _ c.sort_unstable_by_key.ensures.sorted (λ a r q k. search rules)

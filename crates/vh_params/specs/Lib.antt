@@ -1,0 +1,11 @@
+pub mod Short
+pub mod Params
+pub mod Tables
+pub mod ValueText
+pub mod Numbers
+pub mod Reading
+pub mod Laws
+pub mod Classes
+pub mod ClassList
+pub mod Names
+pub mod Nodes
