@@ -1,5 +1,5 @@
 #!/usr/bin/env python3
-"""What must not compile: a token of an object that is dropped or copied.
+"""What must not compile: a token of an object that is dropped or copied, and a life out of order.
 
 Each row changes one line of a crate's copy, and the compiler has to refuse it with the error that is named.
 """
@@ -37,17 +37,55 @@ ROWS = [
         "let first = self; let Ended { value: _ } = self; let Ended { value: _ } = first;",
         "borrow-e0382",
     ),
+    (
+        "a component that processes before it is active",
+        "vh_component",
+        "src/tests.rt",
+        "initialized.set_up(&setup).activate().start();",
+        "initialized.set_up(&setup).start();",
+        "unknown-method",
+    ),
+    (
+        "a component that is activated before it is set up",
+        "vh_component",
+        "src/tests.rt",
+        "initialized.set_up(&setup).activate().start();",
+        "initialized.activate().start();",
+        "unknown-method",
+    ),
+    (
+        "a component that is used after a step",
+        "vh_component",
+        "src/tests.rt",
+        "    assert_eq!(rt; processing.value().setup, setup);\n    let again = processing.stop()",
+        "    let stopped = processing.stop();\n    assert_eq!(rt; processing.value().setup, setup);\n    let again = stopped",
+        "borrow-e0382",
+    ),
 ]
+
+
+def with_those_below(crate):
+    """The lines of crates.txt of a crate and the repository's crates below it."""
+    lines = {line.split(":")[0]: line for line in (ROOT / "crates.txt").read_text().splitlines()}
+    found = {}
+    wanted = [crate]
+    while wanted:
+        name = wanted.pop()
+        if name in lines and name not in found:
+            found[name] = lines[name]
+            wanted += lines[name].split(":")[1].split()
+    return found
 
 
 def refusal(crate, file, old, new):
     """What the compiler says of the crate where one text is another."""
     with tempfile.TemporaryDirectory() as folder:
         copy = Path(folder) / "crates" / crate
-        shutil.copytree(ROOT / "crates" / crate, copy, ignore=shutil.ignore_patterns("out", "must-fail"))
-        lines = (ROOT / "crates.txt").read_text().splitlines()
-        listed = [line for line in lines if line.split(":")[0] == crate]
-        (Path(folder) / "crates.txt").write_text("\n".join(listed) + "\n")
+        listed = with_those_below(crate)
+        for name in listed:
+            left = shutil.ignore_patterns("out", "must-fail")
+            shutil.copytree(ROOT / "crates" / name, Path(folder) / "crates" / name, ignore=left)
+        (Path(folder) / "crates.txt").write_text("\n".join(listed.values()) + "\n")
         shutil.copy(ROOT / "HANDLES", folder)
         text = (copy / file).read_text()
         if text.count(old) != 1:
