@@ -85,8 +85,8 @@ impl Layout {
         &self.buses[..self.len]
     }
 
-    #[tactic(auto, using(crate::proofs::Arranged::switched_in))]
     /// Switches the bus of this number among those of a media type and a direction.
+    #[tactic(auto, using(crate::proofs::Arranged::switched_in))]
     pub fn activate_bus(
         &mut self,
         media: u8,
@@ -105,8 +105,8 @@ impl Layout {
         }
     }
 
-    #[tactic(auto, using(crate::proofs::Arranged::all_arranged))]
     /// Gives every audio bus so many channels, where inputs and outputs are to have as many, 1 or 2.
+    #[tactic(auto, using(crate::proofs::Arranged::all_arranged))]
     pub fn set_arrangement(&mut self, ins: u16, outs: u16) -> Result<(), Unsupported>
         ensures { IsArranged ins outs (buses_of self.old) (buses_of self.new) result }
     {
