@@ -1,0 +1,4 @@
+pub mod Tokens
+pub mod Numbers
+pub mod Lines
+pub mod Left

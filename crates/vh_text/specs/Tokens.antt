@@ -1,0 +1,50 @@
+-- The words of a line.
+use Rattle.std.specs.Prelude.{◌≡◌, ℕ, suc, ◌+◌, Bool, false, not, ◌&&◌, ◌==◌, nat_le, List, [], ◌∷◌, Option, Some, None, Result, Ok, Err, Vec, if◌then◌else◌}
+use Rattle.vh_num.specs.declared.refusal.Refusal.{Refusal}
+use Rattle.vh_num.specs.declared.refusal.Refusal.TheVariants.{Fault, Memory}
+use Rattle.vh_text.specs.declared.token.Token.{Token}
+use Rattle.vh_text.specs.declared.token.BadByte.{BadByte}
+
+-- a byte of printable ASCII
+abbrev pub is_printable : ℕ → Bool
+is_printable b = nat_le 32 b && nat_le b 126
+
+-- the first byte that isn't, where the first of these bytes has this place
+abbrev pub bad_from : ℕ → List ℕ → Option BadByte
+bad_from at [] = None
+bad_from at (b ∷ bs) = if is_printable b then bad_from (at + 1) bs else Some (record { place = at })
+
+abbrev pub bad_byte : List ℕ → Option BadByte
+bad_byte line = bad_from 0 line
+
+-- a word goes on
+abbrev pub goes_on : List ℕ → Bool
+goes_on [] = false
+goes_on (b ∷ bs) = not (b == 32)
+
+-- the bytes of the word that begins here
+abbrev pub word_length : List ℕ → ℕ
+word_length [] = 0
+word_length (b ∷ bs) = if b == 32 then 0 else suc (word_length bs)
+
+-- the first token, from this place on
+abbrev pub begin_at : ℕ → List Token → List Token
+begin_at at [] = []
+begin_at at (token ∷ tokens) = record { from = at; to = token.to } ∷ tokens
+
+-- the longest runs of bytes other than space: such a byte belongs to the run of the next byte, or ends one
+abbrev pub tokens_from : ℕ → List ℕ → List Token
+tokens_from at [] = []
+tokens_from at (b ∷ bs) =
+    if b == 32 then tokens_from (at + 1) bs
+    else if goes_on bs then begin_at at (tokens_from (at + 1) bs)
+    else record { from = at; to = at + 1 } ∷ tokens_from (at + 1) bs
+
+abbrev pub tokens_of : List ℕ → List Token
+tokens_of line = tokens_from 0 line
+
+-- a line is told in tokens, or refused for its first bad byte
+abbrev pub IsTokenized : {A : Type 0} → List ℕ → Result (Vec Token A) (Refusal BadByte) → Type 0
+IsTokenized line (Ok tokens) = (bad_byte line ≡ None) × (tokens.items ≡ tokens_of line)
+IsTokenized line (Err (Fault fault)) = bad_byte line ≡ Some fault
+IsTokenized line (Err Memory) = bad_byte line ≡ None
