@@ -1,0 +1,5 @@
+mod Segments
+mod Bounds
+mod Sending
+mod Lawful
+mod Ramps
