@@ -1,0 +1,10 @@
+pub mod Class
+pub mod Blocks
+pub mod Counts
+pub mod Controls
+pub mod Sets
+pub mod Pairs
+pub mod PairLaws
+pub mod Lists
+pub mod ListLaws
+pub mod Wires

@@ -1,0 +1,17 @@
+//! What plug-ins are to the host: processors, controllers, and sets of classes.
+#![tactic(auto)]
+
+mod both;
+mod controller;
+mod one_of;
+mod processor;
+mod set;
+
+pub use both::Both;
+pub use controller::Controller;
+pub use one_of::OneOf;
+pub use processor::Processor;
+pub use set::PluginSet;
+
+#[cfg(test)]
+mod tests;
