@@ -1,2 +1,4 @@
 mod Copies
 mod WireSets
+mod Stretches
+mod Played

@@ -8,3 +8,5 @@ pub mod PairLaws
 pub mod Lists
 pub mod ListLaws
 pub mod Wires
+pub mod Quiet
+pub mod Runs

@@ -3,12 +3,14 @@
 
 mod both;
 mod controller;
+mod kernel;
 mod one_of;
 mod processor;
 mod set;
 
 pub use both::Both;
 pub use controller::Controller;
+pub use kernel::{Kernel, play};
 pub use one_of::OneOf;
 pub use processor::Processor;
 pub use set::PluginSet;
