@@ -8,18 +8,13 @@ import sys
 import tempfile
 import wave
 
+from tally import Tally
+
 TOP = pathlib.Path(__file__).resolve().parent.parent
 CRATE = TOP / "crates/wav_copy"
 PROGRAM = CRATE / "out/wav_copy"
-failures = []
-count = 0
-
-
-def expect(name, got, want):
-    global count
-    count += 1
-    if got != want:
-        failures.append(f"{name}: got {str(got)[:200]}, wanted {str(want)[:200]}")
+TALLY = Tally()
+expect = TALLY.expect
 
 
 def build():
@@ -129,10 +124,7 @@ def main():
             check_sox(work)
         if shutil.which("ffmpeg"):
             check_ffmpeg(work)
-    for failure in failures:
-        print("checks:", failure)
-    print(f"copies: {count - len(failures)} passed, {len(failures)} failed")
-    return 1 if failures else 0
+    return TALLY.close("copies")
 
 
 if __name__ == "__main__":

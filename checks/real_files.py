@@ -8,18 +8,13 @@ import sys
 import tempfile
 import wave
 
+from tally import Tally
+
 TOP = pathlib.Path(__file__).resolve().parent.parent
 PROGRAM = str(TOP / "vsthost")
 LINES = ["vsthost session 1", "length 3", "channels 1", "bits 16", "pattern 64", "node a gain", "wire in a", "wire a out"]
-failures = []
-count = 0
-
-
-def expect(name, got, want):
-    global count
-    count += 1
-    if got != want:
-        failures.append(f"{name}: got {got!r}, wanted {want!r}")
+TALLY = Tally()
+expect = TALLY.expect
 
 
 def session(changes=None, lines=8):
@@ -176,7 +171,4 @@ with tempfile.TemporaryDirectory() as WORK:
     check_example()
     check_refusals()
     check_faults()
-for failure in failures:
-    print("checks:", failure)
-print(f"checks: {count - len(failures)} passed, {len(failures)} failed")
-sys.exit(1 if failures else 0)
+sys.exit(TALLY.close("checks"))
