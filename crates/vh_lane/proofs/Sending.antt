@@ -1,11 +1,11 @@
 -- Points that are sent one by one.
 use Rattle.std.proofs.Common.{◌≡◌, ◌≢◌, ℕ, zero, suc, ◌+◌, ◌<◌, ◌≤◌, true, false, cond, nat_eq, List, [], ◌∷◌, ◌++◌, length, get_or, set, refl, sym, ap, subst, ◌-◌, ◌∙◌, arith}
 use Rattle.std.proofs.lemmas.Bool.{eqb-true, ne_eqb, eq-eqb}
-use Rattle.std.proofs.lemmas.List.{get_or-set_same, set-get_or, length-set, length-append}
+use Rattle.std.proofs.lemmas.List.{get_or-set_same, set-get_or, length-append}
 use Rattle.std.proofs.Math.Seq.{get_or-append_seam}
 use Rattle.vh_points.specs.Queues.{Queue, queue_at, no_queue, with_point, MayFollow}
 use Rattle.vh_lane.specs.Values.{ArePassed, AreReached}
-use Rattle.vh_lane.proofs.Segments.{reached_here, reached_next}
+use Rattle.vh_lane.proofs.Segments.{reached_next}
 use Rattle.vh_lane.specs.Changes.{before, changes_of, with_points}
 
 -- the last point was sent before, and its value stands since
@@ -66,17 +66,6 @@ pub record IsSent (breaks : List (ℕ × ℕ)) (value : ℕ → ℕ) (from last 
   pub value_since : since ≡ before value from last (s - from)
   pub rooms : left + length (changes_of value from last (s - from)) ≡ room
 
-pub sent_none : (breaks : List (ℕ × ℕ)) (value : ℕ → ℕ) (from last q : ℕ) (old : List Queue) (room passed : ℕ) → ArePassed breaks passed from → (queue_at old q).points ≡ [] → IsSent breaks value from last q old room from passed last old room
-sent_none breaks value from last q old room passed are none =
-    let start : from - from ≡ 0 = omega arith in
-    record {
-      reached = reached_here breaks passed from are;
-      range = omega arith;
-      sent = rw start (with_no_points old q none);
-      value_since = rw start refl;
-      rooms = rw start (omega arith);
-    }
-
 next_offset : (from s : ℕ) → from ≤ s → s + 1 - from ≡ suc (s - from)
 next_offset from s le = omega arith
 
@@ -120,10 +109,6 @@ sent_follows breaks value from last q old room s passed since now left v is valu
     let here : value (from + n) ≡ v = ap value (at_offset from s is.range) ∙ sym valued in
     let points : (queue_at now q).points ≡ changes_of value from last n = ap (λ (queues : List Queue). (queue_at queues q).points) is.sent ∙ ap (λ (queue : Queue). queue.points) (queue_with_points old q (changes_of value from last n) within) in
     rw points (subst (λ x. MayFollow (changes_of value from last n) (n, x)) here (may_follow_changes value from last n (λ e. differs (sym here ∙ e ∙ sym is.value_since))))
-
-pub sent_length : (breaks : List (ℕ × ℕ)) (value : ℕ → ℕ) (from last q : ℕ) (old : List Queue) (room s passed since : ℕ) (now : List Queue) (left : ℕ) → IsSent breaks value from last q old room s passed since now left → length now ≡ length old
-sent_length breaks value from last q old room s passed since now left is =
-    ap (λ (queues : List Queue). length queues) is.sent ∙ length-set old q (record { id = (queue_at old q).id; points = changes_of value from last (s - from) })
 
 pub sent_room : (breaks : List (ℕ × ℕ)) (value : ℕ → ℕ) (from last q : ℕ) (old : List Queue) (room s passed since : ℕ) (now : List Queue) (left to : ℕ) → IsSent breaks value from last q old room s passed since now left → to - from ≤ room → s < to → 0 < left
 sent_room breaks value from last q old room s passed since now left to is enough more =

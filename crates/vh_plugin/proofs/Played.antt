@@ -37,14 +37,6 @@ same_outputs class start channels n queues values main aux from to state now is 
     ap (λ (s : State). class.output channels s now (main_at block (from + k)) (aux_at block (from + k))) rest
     ∙ ap (λ (vs : List ℕ). class.output channels (state_in class start block (from + k)) vs (main_at block (from + k)) (aux_at block (from + k))) here
 
-pub played_none : (class : Class) (start : State) (channels n : ℕ) (queues : List Queue) (values : List ℕ) (main aux out : List ℤ) → length out ≡ channels * n → IsPlayed class start channels n queues values main aux 0 start out
-played_none class start channels n queues values main aux out long = record {
-  within = omega arith;
-  long = long;
-  frames = λ place before. absurd (omega (arith, before));
-  state_is = refl;
-}
-
 pub played_more : (class : Class) (start : State) (channels n : ℕ) (queues : List Queue) (values : List ℕ) (main aux : List ℤ) (from to : ℕ) (state next : State) (out new : List ℤ) (now : List ℕ)
     → IsPlayed class start channels n queues values main aux from state out → to ≤ n → IsStill class.params queues values from to → now ≡ values_at class.params queues values from
     → IsRun class state (block_of channels n [] [] main aux) now from to out new → next ≡ run_state class state (block_of channels n [] [] main aux) now from (to - from)

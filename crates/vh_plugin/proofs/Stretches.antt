@@ -1,7 +1,7 @@
 -- What the scan of a queue tells.
-use Rattle.std.proofs.Common.{◌≡◌, ℕ, ◌+◌, ◌-◌, ◌<◌, ◌≤◌, ◌⊎◌, inl, inr, true, false, cond, nat_lt, List, [], ◌∷◌, zero, suc, map, set, length, drop, get_or, min, refl, sym, ap, subst, ◌∙◌, arith}
+use Rattle.std.proofs.Common.{◌≡◌, ℕ, ◌+◌, ◌-◌, ◌<◌, ◌≤◌, ◌⊎◌, inl, inr, true, false, cond, nat_lt, List, [], ◌∷◌, zero, suc, map, length, drop, get_or, min, refl, sym, ap, subst, ◌∙◌, arith}
 use Rattle.std.proofs.lemmas.Bool.{ltb-true, ltb-false, le-leb, lt-leb}
-use Rattle.std.proofs.lemmas.List.{drop_more, get_or_default, get_or-set_same, get_or-set_other, length-set}
+use Rattle.std.proofs.lemmas.List.{drop_more, get_or_default}
 use Rattle.vh_params.specs.declared.param.ParamInfo.{ParamInfo}
 use Rattle.vh_points.specs.Queues.{Queue}
 use Rattle.vh_plugin.specs.Class.{param_of}
@@ -92,32 +92,6 @@ pub record AreValued (params : List ParamInfo) (queues : List Queue) (values : L
   pub long : length now ≡ length params
   pub each : (k : ℕ) (d : ParamInfo) (e : ℕ) → k < i → get_or now k e ≡ value_at (get_or values k e) (points_of queues (get_or params k d).id) from
   pub quiet : (k : ℕ) (d : ParamInfo) → k < i → IsQuiet (points_of queues (get_or params k d).id) from next
-
-pub valued_more : (params : List ParamInfo) (queues : List Queue) (values : List ℕ) (from limit i next : ℕ) (now : List ℕ) (value sooner : ℕ) (p d : ParamInfo) → AreValued params queues values from limit i next now → i < length params
-    → p ≡ get_or params i d → value ≡ value_at (get_or values i 0) (points_of queues p.id) from → from < sooner → sooner ≤ next → IsQuiet (points_of queues p.id) from sooner
-    → length values ≡ length params → AreValued params queues values from limit (i + 1) sooner (set now i value)
-valued_more params queues values from limit i next now value sooner p d are within here valued after le quiet some = record {
-  after = after;
-  within = omega (arith, le, are.within);
-  long = length-set now i value ∙ are.long;
-  each = λ k f e lt. elim (nat_lt k i) as (λ t. nat_lt k i ≡ t → get_or (set now i value) k e ≡ value_at (get_or values k e) (points_of queues (get_or params k f).id) from) [
-    | true ↦ λ test.
-        let before = ltb-true k i test in
-        get_or-set_other now i k value e (λ same. omega (arith, same, before)) ∙ are.each k f e before
-    | false ↦ λ test.
-        let last : k ≡ i = omega (arith, ltb-false k i test, lt) in
-        let place : get_or params k f ≡ p = ap (λ n. get_or params n f) last ∙ get_or_default params i f d within ∙ sym here in
-        let old : get_or values k e ≡ get_or values i 0 = ap (λ n. get_or values n e) last ∙ get_or_default values i e 0 (omega (arith, within, some)) in
-        ap (λ n. get_or (set now i value) n e) last ∙ get_or-set_same now i value e (omega (arith, within, are.long)) ∙ valued ∙ ap (λ (x : ParamInfo). value_at (get_or values i 0) (points_of queues x.id) from) (sym place) ∙ ap (λ v. value_at v (points_of queues (get_or params k f).id) from) (sym old)
-  ] refl;
-  quiet = λ k f lt. elim (nat_lt k i) as (λ t. nat_lt k i ≡ t → IsQuiet (points_of queues (get_or params k f).id) from sooner) [
-    | true ↦ λ test. λ j e inside. elim (are.quiet k f (ltb-true k i test) j e inside) [ inl passed ↦ inl passed | inr ahead ↦ inr (omega (arith, ahead, le)) ]
-    | false ↦ λ test.
-        let last : k ≡ i = omega (arith, ltb-false k i test, lt) in
-        let place : get_or params k f ≡ p = ap (λ n. get_or params n f) last ∙ get_or_default params i f d within ∙ sym here in
-        subst (λ (x : ParamInfo). IsQuiet (points_of queues x.id) from sooner) (sym place) quiet
-  ] refl;
-}
 
 pub behind_last : (before n : ℕ) (points : List (ℕ × ℕ)) (d : ℕ × ℕ) → suc n ≡ length points → value_behind before points ≡ (get_or points n d).1
 behind_last before n [] d last = absurd (omega (arith, last))
