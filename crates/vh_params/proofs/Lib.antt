@@ -1,3 +1,4 @@
+mod SortedOnce
 pub mod Tables
 pub mod Decimals
 pub mod TextValues

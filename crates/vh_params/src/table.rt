@@ -102,6 +102,7 @@ impl ParamTable {
         ensures refused { (fault : Fault_) → result ≡ Err (Refusal.Fault fault) → table_fault params.now units.now ≡ Some fault }
         ensures params { IfOk result (λ table. IsPermutation params.now (params_of table)) }
         ensures finds { IfOk result (λ table. (id : ℕ) → param_in (params_of table) id ≡ param_in params.now id) }
+        ensures kept { IfOk result (λ table. AreRising params.now → params_of table ≡ params.now) }
         ensures units_kept { IfOk result (λ table. units_of table ≡ units.now) }
     {
         match table_fault(params, units) {

@@ -1,4 +1,4 @@
 mod Copies
-mod WireSets
 mod Stretches
+mod Frames
 mod Played

@@ -7,6 +7,6 @@ pub mod Pairs
 pub mod PairLaws
 pub mod Lists
 pub mod ListLaws
-pub mod Wires
 pub mod Quiet
 pub mod Runs
+pub mod Stretch

@@ -1,20 +1,37 @@
--- Stretches of a block in which no value changes.
-use Rattle.std.specs.Prelude.{◌≡◌, ℕ, ◌<◌, ◌≤◌, List, [], length, slice_index_or, Option, Some, None, ◌⊎◌}
+-- Where a value goes on from among a parameter's points.
+use Rattle.std.specs.Prelude.{◌≡◌, ℕ, ◌<◌, ◌≤◌, List, [], length, map, drop, slice_index_or, Option, Some, None}
 use Rattle.vh_plugin.specs.Class.{Param}
 use Rattle.vh_points.specs.Queues.{Queue, queue_at}
-use Rattle.vh_points.specs.Values.{points_of}
-use Rattle.vh_plugin.specs.Blocks.{values_at}
+use Rattle.vh_points.specs.Values.{value_at, value_behind, points_of}
+
+-- the identifiers of parameters
+abbrev pub ids_of : List Param → List ℕ
+ids_of params = map (λ param. param.id) params
 
 -- the queue of a parameter, where there is one
 abbrev pub IsQueueOf : List Queue → ℕ → Option ℕ → Type 0
 IsQueueOf queues id (Some q) = (q < length queues) × ((queue_at queues q).points ≡ points_of queues id)
 IsQueueOf queues id None = points_of queues id ≡ []
 
--- each of these points stands at `from` or before, or at `to` or behind
-abbrev pub IsQuiet : List (ℕ × ℕ) → ℕ → ℕ → Type 0
-IsQuiet points from to = (j : ℕ) (d : ℕ × ℕ) → j < length points → ((slice_index_or points j d).0 ≤ from) ⊎ (to ≤ (slice_index_or points j d).0)
+-- from `from` on, this value and the points left over mean what that value and all points do
+pub record GoesOn (points : List (ℕ × ℕ)) (before : ℕ) (rest : List (ℕ × ℕ)) (value from : ℕ) : Type 0 where
+  pub later : (offset : ℕ) → from ≤ offset → value_at value rest offset ≡ value_at before points offset
+  pub behind : value_behind value rest ≡ value_behind before points
 
--- from `from` on, no value changes before `to`
-pub record IsStill (params : List Param) (queues : List Queue) (values : List ℕ) (from to : ℕ) : Type 0 where
-  pub some : from < to
-  pub same : (place : ℕ) → from ≤ place → place < to → values_at params queues values place ≡ values_at params queues values from
+-- the points from `passed` on, up to those of offset `from`, were applied, and the value stands until `next`
+pub record IsMoved (points : List (ℕ × ℕ)) (passed value from passed' value' next : ℕ) : Type 0 where
+  pub goes_on : GoesOn (drop passed points) value (drop passed' points) value' from
+  pub still : (place : ℕ) → from ≤ place → place < next → value_at value (drop passed points) place ≡ value'
+
+-- so of each parameter
+pub record AreMoved (ids : List ℕ) (queues : List Queue) (passed values : List ℕ) (from : ℕ) (passed' values' : List ℕ) (next : ℕ) : Type 0 where
+  pub passed_long : length passed' ≡ length ids
+  pub values_long : length values' ≡ length ids
+  pub each : (k : ℕ) → k < length ids
+      → IsMoved (points_of queues (slice_index_or ids k 0)) (slice_index_or passed k 0) (slice_index_or values k 0) from (slice_index_or passed' k 0) (slice_index_or values' k 0) next
+
+-- the values behind the block of the parameters before this one, and the others as they were
+pub record AreBehind (ids : List ℕ) (queues : List Queue) (old : List ℕ) (i : ℕ) (now : List ℕ) : Type 0 where
+  pub long : length now ≡ length ids
+  pub each : (k : ℕ) → k < i → slice_index_or now k 0 ≡ value_behind (slice_index_or old k 0) (points_of queues (slice_index_or ids k 0))
+  pub others : (k : ℕ) → i ≤ k → slice_index_or now k 0 ≡ slice_index_or old k 0

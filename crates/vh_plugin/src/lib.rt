@@ -14,6 +14,3 @@ pub use kernel::{Kernel, play};
 pub use one_of::OneOf;
 pub use processor::Processor;
 pub use set::PluginSet;
-
-#[cfg(test)]
-mod tests;

@@ -2,6 +2,7 @@ use Rattle.std.proofs.Common.{◌≡◌, List, None, sym, subst, ◌∙◌, arit
 use Rattle.std.specs.Prelude.{All}
 use Rattle.vh_params.specs.declared.param.UnitInfo.{UnitInfo}
 use Rattle.vh_params.specs.Params.{table_fault, IsLawful}
+use Rattle.vh_params.proofs.SortedOnce.{sorted_once}
 use Rattle.vh_params.proofs.Tables.{rising_list, lawful_list, length_list, finds_list}
 use Rattle.vh_params.proofs.table.ParamTable.new.Goals as goal
 
@@ -26,3 +27,9 @@ pub returns-clause-finds : goal.returns-clause-finds
 returns-clause-finds c =
     let none : table_fault c.args.params.now c.args.units.now ≡ None = sym c.table_fault.ensures ∙ c.in-None.is in
     finds_list c.args.units.now c.args.params.now c.in-Ok.params.items none c.in-Ok.ensures.order
+
+pub returns-clause-kept : goal.returns-clause-kept
+returns-clause-kept c rises =
+    let none : table_fault c.args.params.now c.args.units.now ≡ None = sym c.table_fault.ensures ∙ c.in-None.is in
+    sorted_once c.in-Ok.params.items c.args.params.now (rising_list c.args.units.now c.args.params.now c.in-Ok.params.items none c.in-Ok.ensures.order c.in-Ok.ensures.rising) rises
+    (finds_list c.args.units.now c.args.params.now c.in-Ok.params.items none c.in-Ok.ensures.order)

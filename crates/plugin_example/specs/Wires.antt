@@ -1,8 +1,10 @@
 -- The class of the tests: one parameter that is only shown, no state, and what comes in goes out.
-use Rattle.std.specs.Prelude.{◌≡◌, ℕ, ◌≤◌, ◌<◌, slice_index_or, List, [], ◌∷◌, length, replicate, Some, None, All, if◌then◌else◌, ◌==◌}
+use Rattle.std.specs.Prelude.{◌≡◌, ℕ, Bool, ◌≤◌, ◌<◌, slice_index_or, List, [], ◌∷◌, length, replicate, Some, None, All, if◌then◌else◌, ◌==◌}
 use Rattle.std.proofs.Common.{◌^◌, true, false, cond, nat_eq, ◌&&◌, ◌||◌, zero, suc, refl, ap, sym, subst, ◌∙◌, arith}
 use Rattle.std.proofs.lemmas.Bool.{true≢false}
 use Rattle.vh_params.specs.declared.class.ClassInfo.{ClassInfo}
+use Rattle.vh_params.specs.declared.param.ParamInfo.{ParamInfo}
+use Rattle.vh_params.specs.Tables.{params_of}
 use Rattle.vh_params.specs.Short.{label_text}
 use Rattle.vh_plugin.specs.Class.{Param, Class, IsLawful, AreValues, is_shown, writable_of, has_writable}
 use Rattle.vh_plugin.specs.Blocks.{AreFor, values_behind}
@@ -79,9 +81,15 @@ wire_lawful code = record {
 abbrev pub wire_code : ℕ → ℕ
 wire_code class = 0
 
--- one class is told of, and it is this one
-abbrev pub IsOfWires : List ClassInfo → Type 0
-IsOfWires infos = (class : ℕ) (d : ClassInfo) → class < length infos → IsClassOf wire (slice_index_or infos class d)
+-- each class that is told of is this one
+abbrev pub IsOf : Class → List ClassInfo → Type 0
+IsOf class infos = (k : ℕ) (d : ClassInfo) → k < length infos → IsClassOf class (slice_index_or infos k d)
+
+-- one class is told of: its name, its parameters, whether it has an aux bus, its controllers' class
+abbrev pub TellsOne : List ℕ → List ParamInfo → Bool → List ℕ → List ClassInfo → Type 0
+TellsOne name params aux controller infos = (length infos ≡ 1) × ((d : ClassInfo) →
+    (label_text (slice_index_or infos 0 d).name ≡ name) × (params_of (slice_index_or infos 0 d).params ≡ params)
+    × ((slice_index_or infos 0 d).aux ≡ aux) × ((slice_index_or infos 0 d).controller.0 ≡ controller))
 
 -- one class is told of, which has this name
 abbrev pub HasName : List ClassInfo → List ℕ → Type 0

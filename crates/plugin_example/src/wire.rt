@@ -1,19 +1,21 @@
+//! The smallest class: what comes in goes out.
+
 ghost use Rattle.std.specs.Prelude.{◌≡◌, ◌≤◌, ◌^◌, length, IfOk};
 ghost use Rattle.vh_params.specs.ClassList.{classes_of};
-ghost use Rattle.vh_plugin.specs.Wires.{IsOfWires, HasName, wire_code};
+ghost use Rattle.plugin_example.specs.Wires.{wire, IsOf, HasName, wire_code};
 
-use super::{Both, Controller, OneOf, PluginSet, Processor};
+use crate::parts::{mode_in, one_class};
 use std::alloc::{AllocError, Global};
-use std::test::Fail;
-use vh_component::{Created, Layout, Life, Phase, Setup};
-use vh_counted::{Ended, Shell};
+use vh_component::{Life, Phase, Setup};
+use vh_counted::Ended;
 use vh_ids::Tuid;
-use vh_params::{ClassInfo, Classes, Label, ParamInfo, ParamTable, UnitInfo, Words};
+use vh_params::{Classes, Label, ParamInfo, Words};
+use vh_plugin::{Controller, PluginSet, Processor};
 use vh_points::Points;
 
 /// A processor that gives its main input out, and answers a message by the message. It shows one parameter.
 #[derive(Drop)]
-struct Wire {
+pub struct Wire {
     phase: Phase,
     setup: Setup,
     level: u32,
@@ -56,7 +58,7 @@ impl Life for Wire {
 
 impl Processor for Wire {
     ghost use Rattle.std.specs.Prelude.{[], ◌∷◌, refl, ℕ};
-    ghost use Rattle.vh_plugin.specs.Wires.{wire, wire_lawful, wire_valued, same_values, same_calls};
+    ghost use Rattle.plugin_example.specs.Wires.{wire, wire_lawful, wire_valued, same_values, same_calls};
 
     ghost class_of = { λ code. wire };
 
@@ -121,7 +123,7 @@ impl Processor for Wire {
 
 /// A controller of the same class.
 #[derive(Drop)]
-struct Dial {
+pub struct Dial {
     level: u32,
     mode: u32,
     ghost within: { level ≤ 2 ^ 24 },
@@ -130,7 +132,7 @@ struct Dial {
 
 impl Controller for Dial {
     ghost use Rattle.std.specs.Prelude.{[], ◌∷◌};
-    ghost use Rattle.vh_plugin.specs.Wires.{wire, wire_lawful, wire_valued};
+    ghost use Rattle.plugin_example.specs.Wires.{wire, wire_lawful, wire_valued};
 
     ghost class_of = { λ code. wire };
 
@@ -145,15 +147,12 @@ impl Controller for Dial {
     }
 
     fn set_state(&mut self, bytes: &[u8]) -> bool {
-        let modes = [[1, 0, 0, 0, 0, 0, 0, 0], [1, 0, 0, 0, 1, 0, 0, 0]];
-        if bytes == modes[0].as_slice() {
-            self.mode = 0;
-            true
-        } else if bytes == modes[1].as_slice() {
-            self.mode = 1;
-            true
-        } else {
-            false
+        match mode_in(bytes) {
+            Some(mode) => {
+                self.mode = mode;
+                true
+            }
+            None => false,
         }
     }
 
@@ -189,12 +188,12 @@ impl Controller for Dial {
 
 /// A set of this one class.
 #[derive(Drop)]
-struct Wires {
+pub struct Wires {
     classes: Classes,
     made: u64,
     ended: u64,
     work: u64,
-    ghost one: { IsOfWires (classes_of classes) },
+    ghost one: { IsOf wire (classes_of classes) },
 }
 
 impl PluginSet for Wires {
@@ -282,12 +281,11 @@ impl PluginSet for Wires {
     ghost controllers = { λ set. set.one };
 }
 
-/// A set whose class has this name.
-fn set_named(alloc: Global, name: &[u8]) -> Result<Wires, Fail>
+/// A set of the wire's class under this name.
+pub fn set_of_wires(alloc: Global, name: &[u8]) -> Result<Wires, AllocError>
     requires { length name.now ≤ 32 }
     ensures { IfOk result (λ set. HasName (classes_of set.classes) name.now) }
 {
-    let root = UnitInfo::root(Label::new(b"Root"));
     let level = ParamInfo {
         id: 0,
         title: Label::new(b"Level"),
@@ -297,62 +295,10 @@ fn set_named(alloc: Global, name: &[u8]) -> Result<Wires, Fail>
         unit: 0,
         flags: 2,
     };
-    let Ok(params) = ParamTable::new(alloc, &[level], &[root]) else {
-        return Err(Fail::from(AllocError));
-    };
-    let mut list = Vec::new(alloc);
-    list.push(ClassInfo {
-        name: Label::new(name),
-        component: Tuid([0; 16]),
-        controller: Tuid([0; 16]),
-        aux: false,
-        params,
-    })?;
     Ok(Wires {
-        classes: Classes::new(alloc, list)?,
+        classes: one_class(alloc, name, &[level], false, Tuid([0; 16]))?,
         made: 0,
         ended: 0,
         work: 0,
     })
-}
-
-#[test]
-fn two_sets_are_one(rt: HostRuntime) -> Result<(), Fail> {
-    let alloc = rt.alloc();
-    let first = set_named(alloc, b"first")?;
-    let second = set_named(alloc, b"second")?;
-    let mut both = Both::new(alloc, first, second)?;
-    assert_eq!(rt; both.classes().find(b"first"), Some(0));
-    assert_eq!(rt; both.classes().find(b"second"), Some(1));
-    let wire = both.create_component(alloc, 1)?;
-    let mut dial = both.create_controller(alloc, 0)?;
-    assert!(rt; matches!(wire, OneOf::Second(_)));
-    assert!(rt; matches!(dial, OneOf::First(_)));
-    assert!(rt; dial.set_state(&[1, 0, 0, 0, 1, 0, 0, 0]));
-    assert_eq!(rt; dial.mode(), 1);
-    let points = Points::new(alloc, 1, 1)?;
-    let (object, opener) = Shell::new(alloc, 5, 0)?.fill(wire);
-    let setup = Setup {
-        channels: 2,
-        max: 64,
-    };
-    let initialized = Created::from(opener).initialize(Layout::new(2, false));
-    let mut processing = initialized.set_up(&setup).activate().start();
-    let mut out = [0; 4];
-    let wire = processing.value_mut();
-    wire.process(2, &points, &[1, -2, 3, -4], &[], &mut out);
-    wire.process(2, &points, &[5, -6, 7, -8], &[], &mut out);
-    assert_eq!(rt; out, [5, -6, 7, -8]);
-    let message = Words::new(&[3, 1]);
-    assert_eq!(rt; wire.notify(&[0], &message), message);
-    let opener = processing.stop().deactivate().terminate();
-    let (holder, ended) = object.end(opener, 0);
-    both.end_component(ended);
-    object.dissolve(holder);
-    let (object, opener) = Shell::new(alloc, 4, 0)?.fill(dial);
-    let (holder, ended) = object.end(opener, 0);
-    both.end_controller(ended);
-    object.dissolve(holder);
-    assert_eq!(rt; (both.made(), both.ended(), both.work()), (2, 2, 2));
-    Ok(())
 }

@@ -1,0 +1,2 @@
+mod WireSets
+mod Counting

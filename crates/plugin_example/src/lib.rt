@@ -1,0 +1,12 @@
+//! Plug-ins of one's own: two classes, each with its set.
+#![tactic(auto)]
+
+mod parts;
+mod switch;
+mod wire;
+
+pub use switch::{Knob, Switch, Switches, set_of_switches};
+pub use wire::{Dial, Wire, Wires, set_of_wires};
+
+#[cfg(test)]
+mod tests;
