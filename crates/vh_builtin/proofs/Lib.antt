@@ -1,0 +1,12 @@
+mod Stands
+mod Ran
+mod Shares
+mod Meters
+mod Powers
+mod Gates
+mod Taps
+mod Rings
+mod Echoes
+mod Names
+mod Sounding
+mod Delays

@@ -1,0 +1,6 @@
+use Rattle.std.proofs.Common.{◌+◌, List, ℤ}
+use Rattle.vh_builtin.specs.Rings.{history, IsEcho}
+use Rattle.vh_builtin.proofs.delay.run_ago.Given as goal
+
+abbrev pub invariant-loop-k : goal.invariant-loop-k
+invariant-loop-k l = (us : List ℤ) → IsEcho l.time l.mix l.feedback us l.main l.from (history l.fn.ring l.write) l.fn.out → IsEcho l.time l.mix l.feedback us l.main (l.from + l.k) (history l.ring (l.write + l.k)) l.out

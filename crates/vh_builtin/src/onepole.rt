@@ -1,0 +1,75 @@
+//! The one-pole filter.
+
+ghost use Rattle.std.specs.Prelude.{◌≡◌, ◌≤◌, ◌^◌, [], ◌∷◌, pos};
+ghost use Rattle.vh_builtin.specs.OnePole.{onepole, pole_of};
+
+use crate::arithmetic::{by_unit, difference, raised, weighted};
+use vh_plugin::Kernel;
+
+/// Lets each channel's state go a part of the way to the sample.
+#[derive(Drop)]
+pub struct OnePole {
+    left: i32,
+    right: i32,
+}
+
+/// The state after a sample.
+#[inline(always)]
+#[tactic(auto, using(crate::proofs::Shares::pole_is_sample))]
+fn pole(cutoff: u32, z: i32, x: i32) -> i32
+    requires { cutoff ≤ 2 ^ 24 }
+    ensures { result ≡ pole_of cutoff z x }
+{
+    raised(z, by_unit(weighted(difference(x, z), cutoff)))
+}
+
+impl OnePole {
+    /// The state at first.
+    pub fn new() -> OnePole
+        ensures left { result.left ≡ pos 0 }
+        ensures right { result.right ≡ pos 0 }
+    {
+        OnePole { left: 0, right: 0 }
+    }
+}
+
+impl Kernel for OnePole {
+    ghost class = { onepole };
+
+    ghost state = { λ it. it.left ∷ it.right ∷ [] };
+
+    fn mono(&mut self, values: &[u32], main: &[i32], aux: &[i32], out: &mut [i32]) {
+        let _ = aux;
+        let cutoff = values[0];
+        let mut left = self.left;
+        for i in 0..out.len() {
+            left = pole(cutoff, left, main[i]);
+            out[i] = left;
+        }
+        self.left = left;
+    }
+
+    fn stereo(
+        &mut self,
+        values: &[u32],
+        left: &[i32],
+        right: &[i32],
+        aux_left: &[i32],
+        aux_right: &[i32],
+        out_left: &mut [i32],
+        out_right: &mut [i32],
+    ) {
+        let _ = aux_left;
+        let _ = aux_right;
+        let cutoff = values[0];
+        let (mut z, mut w) = (self.left, self.right);
+        for i in 0..out_left.len() {
+            z = pole(cutoff, z, left[i]);
+            w = pole(cutoff, w, right[i]);
+            out_left[i] = z;
+            out_right[i] = w;
+        }
+        self.left = z;
+        self.right = w;
+    }
+}
