@@ -1,7 +1,7 @@
 -- Points that are added.
-use Rattle.std.proofs.Common.{◌≡◌, ◌≢◌, ℕ, zero, suc, ◌+◌, ◌<◌, ◌≤◌, true, false, nat_eq, nat_lt, List, [], ◌∷◌, ◌++◌, length, get_or, set, All, refl, sym, ap, subst, ◌∙◌, arith}
+use Rattle.std.proofs.Common.{◌≡◌, ℕ, zero, suc, ◌+◌, ◌<◌, true, false, nat_eq, nat_lt, List, [], ◌∷◌, ◌++◌, length, get_or, set, All, refl, sym, subst, ◌∙◌, arith}
 use Rattle.std.proofs.lemmas.Bool.{eqb-true, eq-eqb, true≢false, ltb-true, ltb-false}
-use Rattle.std.proofs.lemmas.List.{get_or-set_same, get_or-set_other, length-set, length-append, get_or_append_left, get_or-append-add, get_or_default}
+use Rattle.std.proofs.lemmas.List.{get_or-set_same, get_or-set_other, length-set, length-append, get_or_append_left, get_or-append-add}
 use Rattle.vh_points.specs.Queues.{Queue, queue_at, no_queue, longer, with_point}
 use Rattle.builtin_bench.specs.Filled.{IsFilled}
 
@@ -37,6 +37,7 @@ filled_first n queues is = subst (λ (qs : List Queue). IsFilled n qs) (sym is) 
     one : (k : ℕ) (d : Queue) → k < 1 → (get_or (record { id = 0; points = [] } ∷ []) k d).id ≡ 0
     one zero d lt = refl
     one (suc k) d lt = absurd (omega (arith, lt))
+
     none : (k : ℕ) (d : Queue) → k < 1 → All (λ point. point.0 < n) (get_or (record { id = 0; points = [] } ∷ []) k d).points
     none zero d lt i e within = absurd (omega (arith, within))
     none (suc k) d lt i e within = absurd (omega (arith, lt))

@@ -87,7 +87,13 @@ fn play_blocks<P: Processor>(
 
 /// Plays so many blocks of `n` samples of each of two channels over a class, with so many points in each, and
 /// answers the sum of the last block's samples, or nothing where there is no such class.
-fn run(alloc: Global, class: u32, n: u32, count: u32, blocks: u32) -> Result<Option<i64>, AllocError>
+fn run(
+    alloc: Global,
+    class: u32,
+    n: u32,
+    count: u32,
+    blocks: u32,
+) -> Result<Option<i64>, AllocError>
     requires { n ≤ 8192 }
 {
     let mut set = BuiltIn::new(alloc)?;
@@ -109,7 +115,14 @@ fn run(alloc: Global, class: u32, n: u32, count: u32, blocks: u32) -> Result<Opt
     };
     let initialized = Created::from(opener).initialize(Layout::new(2, false));
     let mut processing = initialized.set_up(&setup).activate().start();
-    play_blocks(processing.value_mut(), blocks, n as usize, &points, &main, &mut out);
+    play_blocks(
+        processing.value_mut(),
+        blocks,
+        n as usize,
+        &points,
+        &main,
+        &mut out,
+    );
     let opener = processing.stop().deactivate().terminate();
     let (holder, ended) = object.end(opener, 0);
     set.end_component(ended);

@@ -166,8 +166,8 @@ fn class_agrees(alloc: Global, kind: Kind, channels: u16, blocks: u32) -> Result
 fn blocks_agree_with_a_plain_program(rt: HostRuntime) -> Result<(), Fail> {
     let alloc = rt.alloc();
     for number in 0..8 {
-        assert!(rt; class_agrees(alloc, Kind::of_number(number), 1, 250)?);
-        assert!(rt; class_agrees(alloc, Kind::of_number(number), 2, 250)?);
+        assert!(rt; class_agrees(alloc, Kind::of_number(number), 1, 1000)?);
+        assert!(rt; class_agrees(alloc, Kind::of_number(number), 2, 1000)?);
     }
     Ok(())
 }
