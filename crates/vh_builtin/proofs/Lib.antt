@@ -9,4 +9,5 @@ mod Rings
 mod Echoes
 mod Names
 mod Sounding
+mod Mixes
 mod Delays

@@ -1,8 +1,8 @@
 -- Parts of numbers.
-use Rattle.std.proofs.Common.{ℕ, zero, suc, ◌*◌, ◌/◌, ◌^◌, ◌<◌, ◌≤◌, inl, inr, ℤ, pos, negsuc, ◌*ℤ◌, neg_ℤ, ◌+ℤ◌, arith}
+use Rattle.std.proofs.Common.{◌≡◌, ap, ℕ, zero, suc, ◌*◌, ◌/◌, ◌^◌, ◌<◌, ◌≤◌, inl, inr, ℤ, pos, negsuc, ◌*ℤ◌, neg_ℤ, ◌+ℤ◌, arith}
 use Rattle.std.proofs.lemmas.Int.{ints}
 use Rattle.std.proofs.Math.Nat.{div-le_of_le-mul, div-lt_iff_lt-mul, mul-le-mul_left, mul-le-mul_right}
-use Rattle.vh_num.specs.Samples.{IsWithin, floor_div}
+use Rattle.vh_num.specs.Samples.{IsWithin, floor_div, clamp_of}
 use Rattle.vh_builtin.specs.Ranges.{IsBetween, IsSample}
 
 -- a share of a number is no longer than it
@@ -48,3 +48,8 @@ product_within (negsuc n) f is le =
   where
     negative : (k : ℕ) → k ≤ 2 ^ 55 → IsWithin (2 ^ 55) (neg_ℤ (pos k))
     negative k le = record { low = omega (arith, ints, le); high = omega (arith, ints) }
+
+-- a sample is its own clamp
+pub clamp_sample : (x : ℤ) → IsSample x → clamp_of x ≡ x
+clamp_sample (pos n) is = ap (λ k. pos k) (let h = is.high in omega (arith, ints, h))
+clamp_sample (negsuc n) is = ap (λ k. negsuc k) (let l = is.low in omega (arith, ints, l))

@@ -15,7 +15,7 @@ use Rattle.vh_builtin.specs.Gate.{gate_frame, is_loud, is_open}
 use Rattle.vh_builtin.specs.Meter.{peaks_of, peak_word}
 use Rattle.vh_builtin.specs.Delay.{delay, delay_frame, fed_of, delayed_of, ago, all_silent}
 use Rattle.vh_builtin.specs.Rings.{kept_after}
-use Rattle.vh_builtin.proofs.Shares.{share_between}
+use Rattle.vh_builtin.proofs.Shares.{share_between, clamp_sample}
 use Rattle.vh_builtin.proofs.Delays.{state_mono, length_after}
 
 pub law_pole : (cutoff : ℕ) (z x : ℤ) → cutoff ≤ 2 ^ 24 → IsBetween z (pole_of cutoff z x) x
@@ -33,10 +33,6 @@ whole_unit (negsuc n) = down (suc n * 8388608) n (omega arith)
     down : (m n : ℕ) → m ≡ suc n * 8388608 → floor_div (neg_ℤ (pos m)) 8388608 ≡ negsuc n
     down zero n e = absurd (omega (arith, e))
     down (suc m) n e = ap (λ k. negsuc k) (let f : m / 8388608 ≡ n = omega (arith, e) in f)
-
-clamp_sample : (x : ℤ) → IsSample x → clamp_of x ≡ x
-clamp_sample (pos n) is = ap (λ k. pos k) (let h = is.high in omega (arith, ints, h))
-clamp_sample (negsuc n) is = ap (λ k. negsuc k) (let l = is.low in omega (arith, ints, l))
 
 all_unity : (main : Frame) → All IsSample main → map (gain_of 8388608) main ≡ main
 all_unity [] are = refl

@@ -2,6 +2,7 @@
 
 ghost use Rattle.std.specs.Prelude.{◌≡◌, ◌≤◌, ◌-◌, ◌^◌, pos, neg_ℤ, ◌+ℤ◌, ◌*ℤ◌, ◌≤ℤ◌};
 ghost use Rattle.vh_num.specs.Samples.{IsWithin, floor_div};
+ghost use Rattle.vh_builtin.specs.OnePole.{pole_of};
 ghost use Rattle.vh_builtin.specs.Ranges.{IsSample};
 
 /// The product of a sample and a number of up to 2^24.
@@ -93,4 +94,13 @@ pub fn raised(x: i32, by: i64) -> i32
     ensures { result ≡ x +ℤ by }
 {
     (i64::from(x) + by) as i32
+}
+
+/// The number that lies a part of the way from one sample to another.
+#[inline(always)]
+pub fn toward(part: u32, from: i32, to: i32) -> i32
+    requires { part ≤ 2 ^ 24 }
+    ensures { result ≡ pole_of part from to }
+{
+    raised(from, by_unit(weighted(difference(to, from), part)))
 }

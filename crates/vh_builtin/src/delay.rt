@@ -5,9 +5,9 @@ ghost use Rattle.vh_params.specs.Short.{words_in};
 ghost use Rattle.vh_builtin.specs.Delay.{delay, delayed_of, fed_of, all_silent, delay_told, delay_reply};
 ghost use Rattle.vh_builtin.specs.Rings.{history, IsEcho};
 
-use crate::arithmetic::{by_two_units, by_unit, sum, summand};
+use crate::arithmetic::{by_two_units, sum, summand, toward};
 use std::alloc::{AllocError, Global};
-use vh_num::{ONE, clamp, index};
+use vh_num::{clamp, index};
 use vh_params::Words;
 use vh_plugin::Kernel;
 
@@ -110,7 +110,7 @@ fn delayed(mix: u32, x: i32, w: i32) -> i32
     requires { mix ≤ 2 ^ 24 }
     ensures { result ≡ delayed_of mix x w }
 {
-    clamp(by_unit(sum(summand(x, ONE - mix), summand(w, mix))))
+    toward(mix, x, w)
 }
 
 /// What is kept: the sample, and a part of the number from before.

@@ -65,7 +65,7 @@ fn is_loud(threshold: u32, level: u32) -> bool
 fn passes(loud: bool, left: u32, bypass: u32) -> bool
     ensures { result ≡ (loud || nat_lt 0 left || (bypass == 1)) }
 {
-    loud || left > 0 || bypass == 1
+    loud | (left > 0) | (bypass == 1)
 }
 
 /// A sample where it passes, else silence.

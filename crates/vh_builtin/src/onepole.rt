@@ -1,9 +1,9 @@
 //! The one-pole filter.
 
-ghost use Rattle.std.specs.Prelude.{◌≡◌, ◌≤◌, ◌^◌, [], ◌∷◌, pos};
-ghost use Rattle.vh_builtin.specs.OnePole.{onepole, pole_of};
+ghost use Rattle.std.specs.Prelude.{◌≡◌, [], ◌∷◌, pos};
+ghost use Rattle.vh_builtin.specs.OnePole.{onepole};
 
-use crate::arithmetic::{by_unit, difference, raised, weighted};
+use crate::arithmetic::toward;
 use vh_plugin::Kernel;
 
 /// Lets each channel's state go a part of the way to the sample.
@@ -11,16 +11,6 @@ use vh_plugin::Kernel;
 pub struct OnePole {
     left: i32,
     right: i32,
-}
-
-/// The state after a sample.
-#[inline(always)]
-#[tactic(auto, using(crate::proofs::Shares::pole_is_sample))]
-fn pole(cutoff: u32, z: i32, x: i32) -> i32
-    requires { cutoff ≤ 2 ^ 24 }
-    ensures { result ≡ pole_of cutoff z x }
-{
-    raised(z, by_unit(weighted(difference(x, z), cutoff)))
 }
 
 impl OnePole {
@@ -43,7 +33,7 @@ impl Kernel for OnePole {
         let cutoff = values[0];
         let mut left = self.left;
         for i in 0..out.len() {
-            left = pole(cutoff, left, main[i]);
+            left = toward(cutoff, left, main[i]);
             out[i] = left;
         }
         self.left = left;
@@ -64,8 +54,8 @@ impl Kernel for OnePole {
         let cutoff = values[0];
         let (mut z, mut w) = (self.left, self.right);
         for i in 0..out_left.len() {
-            z = pole(cutoff, z, left[i]);
-            w = pole(cutoff, w, right[i]);
+            z = toward(cutoff, z, left[i]);
+            w = toward(cutoff, w, right[i]);
             out_left[i] = z;
             out_right[i] = w;
         }
