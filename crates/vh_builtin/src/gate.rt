@@ -1,6 +1,6 @@
 //! The gate.
 
-ghost use Rattle.std.specs.Prelude.{◌≡◌, ◌-◌, ◌/◌, ◌⊎◌, ℕ, [], ◌∷◌, ◌||◌, ◌==◌, nat_le, nat_lt, length, max, pos, if◌then◌else◌};
+ghost use Rattle.std.specs.Prelude.{◌≡◌, ◌≤◌, ◌-◌, ◌/◌, ◌⊎◌, ℕ, [], ◌∷◌, ◌||◌, ◌==◌, nat_le, nat_lt, length, max, pos, if◌then◌else◌};
 ghost use Rattle.vh_plugin.specs.Runs.{mono, stereo, aux_mono, aux_stereo};
 ghost use Rattle.vh_builtin.specs.Frames.{magnitude};
 ghost use Rattle.vh_builtin.specs.Gate.{gate, key_of};
@@ -60,12 +60,15 @@ fn is_loud(threshold: u32, level: u32) -> bool
     level >= threshold / 2
 }
 
-/// Whether the gate lets a sample pass.
+/// Whether the gate lets a sample pass, and how many samples more it stands open then.
 #[inline(always)]
-fn passes(loud: bool, left: u32, bypass: u32) -> bool
-    ensures { result ≡ (loud || nat_lt 0 left || (bypass == 1)) }
+fn open_on(loud: bool, hold: u32, left: u32, bypass: u32) -> (bool, u32)
+    requires { hold ≤ 4095 }
+    ensures pass { result.0 ≡ (loud || nat_lt 0 left || (bypass == 1)) }
+    ensures left { result.1 ≡ if loud then hold else left - 1 }
 {
-    loud | (left > 0) | (bypass == 1)
+    let after = if loud { hold } else { left.saturating_sub(1) };
+    (loud | (left > 0) | (bypass == 1), after)
 }
 
 /// A sample where it passes, else silence.
@@ -74,14 +77,6 @@ fn gated(pass: bool, x: i32) -> i32
     ensures { result ≡ if pass then x else pos 0 }
 {
     if pass { x } else { 0 }
-}
-
-/// How many samples more it stands open.
-#[inline(always)]
-fn left_after(loud: bool, hold: u32, left: u32) -> u32
-    ensures { result ≡ if loud then hold else left - 1 }
-{
-    if loud { hold } else { left.saturating_sub(1) }
 }
 
 impl Gate {
@@ -100,13 +95,15 @@ impl Kernel for Gate {
 
     fn mono(&mut self, values: &[u32], main: &[i32], aux: &[i32], out: &mut [i32]) {
         let key = mono_key(main, aux);
+        let threshold = values[0];
         let hold = index(values[1], 4095);
         let bypass = index(values[2], 1);
         let mut left = self.left;
         for i in 0..out.len() {
-            let loud = is_loud(values[0], level_of(key[i]));
-            out[i] = gated(passes(loud, left, bypass), main[i]);
-            left = left_after(loud, hold, left);
+            let loud = is_loud(threshold, level_of(key[i]));
+            let (pass, after) = open_on(loud, hold, left, bypass);
+            out[i] = gated(pass, main[i]);
+            left = after;
         }
         self.left = left;
     }
@@ -122,18 +119,19 @@ impl Kernel for Gate {
         out_right: &mut [i32],
     ) {
         let (key, key_right) = stereo_key(left, right, aux_left, aux_right);
+        let threshold = values[0];
         let hold = index(values[1], 4095);
         let bypass = index(values[2], 1);
         let mut open = self.left;
         for i in 0..out_left.len() {
             let level = level_of(key[i]).max(level_of(key_right[i]));
-            let loud = is_loud(values[0], level);
-            let pass = passes(loud, open, bypass);
+            let loud = is_loud(threshold, level);
+            let (pass, after) = open_on(loud, hold, open, bypass);
             let y = gated(pass, left[i]);
             let z = gated(pass, right[i]);
             out_left[i] = y;
             out_right[i] = z;
-            open = left_after(loud, hold, open);
+            open = after;
         }
         self.left = open;
     }

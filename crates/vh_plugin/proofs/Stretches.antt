@@ -1,11 +1,11 @@
 -- Values that go on from point to point.
-use Rattle.std.proofs.Common.{◌≡◌, ◌≢◌, ℕ, ◌+◌, ◌-◌, ◌<◌, ◌≤◌, true, false, cond, nat_lt, nat_eq, All, List, [], ◌∷◌, zero, suc, length, replicate, take, drop, get_or, set, refl, sym, ap, subst, ◌∙◌, arith}
+use Rattle.std.proofs.Common.{◌≡◌, ◌≢◌, ℕ, ◌+◌, ◌-◌, ◌<◌, ◌≤◌, true, false, cond, nat_lt, nat_eq, All, List, [], ◌∷◌, zero, suc, length, replicate, take, drop, get_or, set, min, refl, sym, ap, subst, ◌∙◌, arith}
 use Rattle.std.proofs.lemmas.Bool.{ltb-true, ltb-false, le-leb, lt-leb, eqb-true, eq-eqb, true≢false}
 use Rattle.std.proofs.lemmas.List.{drop_more, drop_all, get_or_default, get_or-drop, length-drop, get_or-set_same, get_or-set_other, length-set, length-take-le, length-replicate, length-map}
 use Rattle.vh_points.specs.Queues.{Queue, IsRising}
 use Rattle.vh_plugin.specs.Class.{Param}
 use Rattle.vh_plugin.specs.Blocks.{values_at, values_behind}
-use Rattle.vh_plugin.specs.Quiet.{ids_of, GoesOn, IsMoved, AreMoved, AreBehind}
+use Rattle.vh_plugin.specs.Quiet.{ids_of, GoesOn, IsMoved, AreMoved, Stands, AllStand, AreBehind}
 use Rattle.vh_points.specs.Values.{value_at, value_behind, points_of}
 
 goes_on_here : (points : List (ℕ × ℕ)) (value from : ℕ) → GoesOn points value points value from
@@ -66,36 +66,71 @@ moved_sooner : (points : List (ℕ × ℕ)) (passed value from passed' value' ne
 moved_sooner points passed value from passed' value' next sooner is le = record { goes_on = is.goes_on; still = λ place late lt. is.still place late (omega (arith, lt, le)) }
 
 -- the parameters before this one are moved, and the others are as they were
-pub record AreMoving (ids : List ℕ) (queues : List Queue) (passed values : List ℕ) (from i : ℕ) (passed' values' : List ℕ) (next : ℕ) : Type 0 where
+pub record AreMoving (ids : List ℕ) (queues : List Queue) (passed values nexts : List ℕ) (from i : ℕ) (passed' values' nexts' : List ℕ) (next : ℕ) : Type 0 where
   pub passed_long : length passed' ≡ length ids
   pub values_long : length values' ≡ length ids
+  pub nexts_long : length nexts' ≡ length ids
   pub each : (k : ℕ) → k < i → IsMoved (points_of queues (get_or ids k 0)) (get_or passed k 0) (get_or values k 0) from (get_or passed' k 0) (get_or values' k 0) next
+  pub stand : (k : ℕ) → k < i → Stands (points_of queues (get_or ids k 0)) (get_or passed' k 0) (get_or values' k 0) from (get_or nexts' k 0)
   pub others_passed : (k : ℕ) → i ≤ k → get_or passed' k 0 ≡ get_or passed k 0
   pub others_values : (k : ℕ) → i ≤ k → get_or values' k 0 ≡ get_or values k 0
+  pub others_nexts : (k : ℕ) → i ≤ k → get_or nexts' k 0 ≡ get_or nexts k 0
 
 differ : (i k : ℕ) → k < i → k ≢ i
 differ i k lt same = absurd (omega (arith, lt, same))
 
-pub moving_more : (ids : List ℕ) (queues : List Queue) (passed values : List ℕ) (from i : ℕ) (passed' values' : List ℕ) (next count value sooner : ℕ)
-    → AreMoving ids queues passed values from i passed' values' next → i < length ids → sooner ≤ next
+-- a place of a list that was changed before it
+kept : (xs ys : List ℕ) (i k x : ℕ) → ((k : ℕ) → i ≤ k → get_or ys k 0 ≡ get_or xs k 0) → i + 1 ≤ k → get_or (set ys i x) k 0 ≡ get_or xs k 0
+kept xs ys i k x others le = get_or-set_other ys i k x 0 (λ same. differ k i (omega (arith, le)) (sym same)) ∙ others k (omega (arith, le))
+
+pub moving_more : (ids : List ℕ) (queues : List Queue) (passed values nexts : List ℕ) (from i : ℕ) (passed' values' nexts' : List ℕ) (next count value sooner : ℕ)
+    → AreMoving ids queues passed values nexts from i passed' values' nexts' next → i < length ids
     → IsMoved (points_of queues (get_or ids i 0)) (get_or passed' i 0) (get_or values' i 0) from count value sooner
-    → AreMoving ids queues passed values from (i + 1) (set passed' i count) (set values' i value) sooner
-moving_more ids queues passed values from i passed' values' next count value sooner are inside le is = record {
+    → Stands (points_of queues (get_or ids i 0)) count value from sooner
+    → AreMoving ids queues passed values nexts from (i + 1) (set passed' i count) (set values' i value) (set nexts' i sooner) (min next sooner)
+moving_more ids queues passed values nexts from i passed' values' nexts' next count value sooner are inside is stands = record {
   passed_long = length-set passed' i count ∙ are.passed_long;
   values_long = length-set values' i value ∙ are.values_long;
-  each = λ k lt. elim (nat_lt k i) as (λ t. nat_lt k i ≡ t → IsMoved (points_of queues (get_or ids k 0)) (get_or passed k 0) (get_or values k 0) from (get_or (set passed' i count) k 0) (get_or (set values' i value) k 0) sooner) [
+  nexts_long = length-set nexts' i sooner ∙ are.nexts_long;
+  each = λ k lt. elim (nat_lt k i) as (λ t. nat_lt k i ≡ t → IsMoved (points_of queues (get_or ids k 0)) (get_or passed k 0) (get_or values k 0) from (get_or (set passed' i count) k 0) (get_or (set values' i value) k 0) (min next sooner)) [
     | true ↦ λ test.
         let other = differ i k (ltb-true k i test) in
-        rw (get_or-set_other passed' i k count 0 other) (rw (get_or-set_other values' i k value 0 other) (moved_sooner _ _ _ _ _ _ _ _ (are.each k (ltb-true k i test)) le))
+        rw (get_or-set_other passed' i k count 0 other) (rw (get_or-set_other values' i k value 0 other) (moved_sooner _ _ _ _ _ _ _ _ (are.each k (ltb-true k i test)) (omega arith)))
     | false ↦ λ test.
         let here : i ≡ k = omega (arith, ltb-false k i test, lt) in
-        subst (λ j. IsMoved (points_of queues (get_or ids j 0)) (get_or passed j 0) (get_or values j 0) from (get_or (set passed' i count) j 0) (get_or (set values' i value) j 0) sooner) here
+        subst (λ j. IsMoved (points_of queues (get_or ids j 0)) (get_or passed j 0) (get_or values j 0) from (get_or (set passed' i count) j 0) (get_or (set values' i value) j 0) (min next sooner)) here
         (rw (get_or-set_same passed' i count 0 (omega (arith, inside, are.passed_long))) (rw (get_or-set_same values' i value 0 (omega (arith, inside, are.values_long)))
-        (rw (sym (are.others_passed i (omega arith))) (rw (sym (are.others_values i (omega arith))) is))))
+        (rw (sym (are.others_passed i (omega arith))) (rw (sym (are.others_values i (omega arith))) (moved_sooner _ _ _ _ _ _ _ _ is (omega arith))))))
   ] refl;
-  others_passed = λ k le. get_or-set_other passed' i k count 0 (λ same. differ k i (omega (arith, le)) (sym same)) ∙ are.others_passed k (omega (arith, le));
-  others_values = λ k le. get_or-set_other values' i k value 0 (λ same. differ k i (omega (arith, le)) (sym same)) ∙ are.others_values k (omega (arith, le));
+  stand = λ k lt. elim (nat_lt k i) as (λ t. nat_lt k i ≡ t → Stands (points_of queues (get_or ids k 0)) (get_or (set passed' i count) k 0) (get_or (set values' i value) k 0) from (get_or (set nexts' i sooner) k 0)) [
+    | true ↦ λ test.
+        let other = differ i k (ltb-true k i test) in
+        rw (get_or-set_other passed' i k count 0 other) (rw (get_or-set_other values' i k value 0 other) (rw (get_or-set_other nexts' i k sooner 0 other) (are.stand k (ltb-true k i test))))
+    | false ↦ λ test.
+        let here : i ≡ k = omega (arith, ltb-false k i test, lt) in
+        subst (λ j. Stands (points_of queues (get_or ids j 0)) (get_or (set passed' i count) j 0) (get_or (set values' i value) j 0) from (get_or (set nexts' i sooner) j 0)) here
+        (rw (get_or-set_same passed' i count 0 (omega (arith, inside, are.passed_long))) (rw (get_or-set_same values' i value 0 (omega (arith, inside, are.values_long)))
+        (rw (get_or-set_same nexts' i sooner 0 (omega (arith, inside, are.nexts_long))) stands)))
+  ] refl;
+  others_passed = λ k le. kept passed passed' i k count are.others_passed le;
+  others_values = λ k le. kept values values' i k value are.others_values le;
+  others_nexts = λ k le. kept nexts nexts' i k sooner are.others_nexts le;
 }
+
+-- a value that stands is moved by nothing
+pub stands_moved : (points : List (ℕ × ℕ)) (passed value from next : ℕ) → Stands points passed value from next → IsMoved points passed value from passed value next
+stands_moved points passed value from next stands = record { goes_on = goes_on_here (drop passed points) value from; still = stands }
+
+-- a value that was moved stands
+pub moved_stands : (points : List (ℕ × ℕ)) (passed value from passed' value' next : ℕ) → IsMoved points passed value from passed' value' next → Stands points passed' value' from next
+moved_stands points passed value from passed' value' next is place le lt = is.goes_on.later place le ∙ is.still place le lt
+
+-- the parameter at hand stands as before
+pub stands_here : (ids : List ℕ) (queues : List Queue) (passed values nexts : List ℕ) (from i : ℕ) (passed' values' nexts' : List ℕ) (next : ℕ)
+    → AreMoving ids queues passed values nexts from i passed' values' nexts' next → AllStand ids queues passed values from nexts → i < length ids
+    → Stands (points_of queues (get_or ids i 0)) (get_or passed' i 0) (get_or values' i 0) from (get_or nexts' i 0)
+stands_here ids queues passed values nexts from i passed' values' nexts' next are stand inside =
+    rw (are.others_passed i (omega arith)) (rw (are.others_values i (omega arith)) (rw (are.others_nexts i (omega arith)) (stand i inside)))
 
 pub set_within : (values : List ℕ) (i value most : ℕ) → All (λ v. v ≤ most) values → value ≤ most → All (λ v. v ≤ most) (set values i value)
 set_within values i value most are is k d lt =
@@ -222,3 +257,11 @@ behind_more ids queues old i now value are inside is = record {
   ] refl;
   others = λ k le. get_or-set_other now i k value 0 (λ same. differ k i (omega (arith, le)) (sym same)) ∙ are.others k (omega (arith, le));
 }
+
+-- what stands does so from any later sample on
+pub stand_later : (ids : List ℕ) (queues : List Queue) (passed values : List ℕ) (from to : ℕ) (nexts : List ℕ) → AllStand ids queues passed values from nexts → from < to → AllStand ids queues passed values to nexts
+stand_later ids queues passed values from to nexts stand after k inside place le lt = stand k inside place (omega (arith, after, le)) lt
+
+-- nothing has to stand until 0
+pub none_stand : (ids : List ℕ) (queues : List Queue) (passed values nexts : List ℕ) → ((k : ℕ) → get_or nexts k 0 ≡ 0) → AllStand ids queues passed values 0 nexts
+none_stand ids queues passed values nexts none k inside place le lt = absurd (let e = none k in omega (arith, lt, e))

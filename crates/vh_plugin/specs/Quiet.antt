@@ -23,6 +23,14 @@ pub record IsMoved (points : List (ℕ × ℕ)) (passed value from passed' value
   pub goes_on : GoesOn (drop passed points) value (drop passed' points) value' from
   pub still : (place : ℕ) → from ≤ place → place < next → value_at value (drop passed points) place ≡ value'
 
+-- the value stands from `from` until `next`
+abbrev pub Stands : List (ℕ × ℕ) → ℕ → ℕ → ℕ → ℕ → Type 0
+Stands points passed value from next = (place : ℕ) → from ≤ place → place < next → value_at value (drop passed points) place ≡ value
+
+abbrev pub AllStand : List ℕ → List Queue → List ℕ → List ℕ → ℕ → List ℕ → Type 0
+AllStand ids queues passed values from nexts = (k : ℕ) → k < length ids
+    → Stands (points_of queues (slice_index_or ids k 0)) (slice_index_or passed k 0) (slice_index_or values k 0) from (slice_index_or nexts k 0)
+
 -- so of each parameter
 pub record AreMoved (ids : List ℕ) (queues : List Queue) (passed values : List ℕ) (from : ℕ) (passed' values' : List ℕ) (next : ℕ) : Type 0 where
   pub passed_long : length passed' ≡ length ids

@@ -3,7 +3,7 @@
 ghost use Rattle.std.specs.Prelude.{◌≡◌, ◌≤◌, ◌<◌, ◌*◌, ◌-◌, ◌^◌, ◌⊎◌, ℤ, List, [], All, length};
 ghost use Rattle.vh_points.specs.Model.{queues_of};
 ghost use Rattle.vh_points.specs.Values.{value_behind, points_of};
-ghost use Rattle.vh_plugin.specs.Quiet.{ids_of, IsQueueOf, IsMoved, AreMoved, AreBehind};
+ghost use Rattle.vh_plugin.specs.Quiet.{ids_of, IsQueueOf, IsMoved, AreMoved, Stands, AllStand, AreBehind};
 ghost use Rattle.vh_plugin.specs.Class.{Class, AreValues};
 ghost use Rattle.vh_plugin.specs.Blocks.{values_behind, block_of, state_in, IsOutput, AreAux};
 ghost use Rattle.vh_plugin.specs.Runs.{mono, stereo, aux_mono, aux_stereo, AreBeside, run_state, IsRun};
@@ -55,31 +55,63 @@ fn moved(
     (passed, value, limit)
 }
 
+/// The same where the value stands until `next`: nothing is to be applied before.
+fn move_on(
+    points: &Points,
+    id: u32,
+    passed: usize,
+    value: u32,
+    next: usize,
+    from: usize,
+    limit: usize,
+) -> (usize, u32, usize)
+    requires limit { from < limit }
+    requires value { value ≤ 2 ^ 24 }
+    requires stands { Stands (points_of (queues_of points.now) id) passed value from next }
+    ensures value { result.1 ≤ 2 ^ 24 }
+    ensures moved { IsMoved (points_of (queues_of points.now) id) passed value from result.0 result.1 result.2 }
+    ensures stands { Stands (points_of (queues_of points.now) id) result.0 result.1 from result.2 }
+    ensures after { from < result.2 }
+{
+    if next > from {
+        (passed, value, next)
+    } else {
+        moved(points, id, passed, value, from, limit)
+    }
+}
+
 /// Applies the points of all parameters up to those at an offset, and answers where a value may change next,
-/// at most at a limit.
+/// at most at a limit. Of each parameter it is kept where its value may change next.
 fn move_all(
     ids: &[u32],
     points: &Points,
     passed: &mut [usize],
+    nexts: &mut [usize],
     values: &mut [u32],
     from: usize,
     limit: usize,
 ) -> usize
     requires limit { from < limit }
     requires passed { length passed.old ≡ length ids.now }
+    requires nexts { length nexts.old ≡ length ids.now }
     requires values { length values.old ≡ length ids.now }
     requires within { All (λ value. value ≤ 2 ^ 24) values.old }
+    requires stand { AllStand ids.now (queues_of points.now) passed.old values.old from nexts.old }
     ensures within_one { All (λ value. value ≤ 2 ^ 24) values.new }
     ensures moved { AreMoved ids.now (queues_of points.now) passed.old values.old from passed.new values.new result }
+    ensures stand { AllStand ids.now (queues_of points.now) passed.new values.new from nexts.new }
     ensures after { from < result }
     ensures within { result ≤ limit }
 {
     let mut next = limit;
     for i in 0..ids.len() {
-        let (count, value, sooner) = moved(points, ids[i], passed[i], values[i], from, next);
+        let (count, value, sooner) = move_on(
+            points, ids[i], passed[i], values[i], nexts[i], from, limit,
+        );
         passed[i] = count;
         values[i] = value;
-        next = sooner;
+        nexts[i] = sooner;
+        next = next.min(sooner);
     }
     next
 }
@@ -271,11 +303,13 @@ pub fn play<K: Kernel>(
     ensures values { values.new ≡ values_behind K.class.params (queues_of points.now) values.old }
     ensures valued { AreValues K.class.params values.new }
 {
-    let mut store = [0usize; 64];
-    let passed = &mut store[..ids.len()];
+    let mut passed_store = [0usize; 64];
+    let mut nexts_store = [0usize; 64];
+    let passed = &mut passed_store[..ids.len()];
+    let nexts = &mut nexts_store[..ids.len()];
     let mut from = 0;
     while from < n {
-        let to = move_all(ids, points, passed, values, from, n);
+        let to = move_all(ids, points, passed, nexts, values, from, n);
         run_stretch(kernel, values, channels, n, from, to, main, aux, out);
         from = to;
     }

@@ -2,7 +2,7 @@ use Rattle.std.proofs.Common.{◌≡◌, ℕ, List, length, sym, ap, ◌∙◌}
 use Rattle.std.proofs.lemmas.List.{length-map}
 use Rattle.vh_points.specs.Model.{queues_of}
 use Rattle.vh_plugin.proofs.Played.{played_first, played_more}
-use Rattle.vh_plugin.proofs.Stretches.{going_first, going_more, valued_until, behind_going, zeros, length_zeros}
+use Rattle.vh_plugin.proofs.Stretches.{going_first, going_more, valued_until, behind_going, zeros, length_zeros, stand_later, none_stand}
 use Rattle.vh_plugin.proofs.kernel.play.Goals as goal
 
 pub loop-from-preserved : goal.loop-from-preserved
@@ -14,6 +14,8 @@ loop-from-preserved g c =
           c.run_stretch.ensures.out c.run_stretch.ensures.state,
       going_more _ _ _ _ _ _ _ _ _ going moved c.move_all-to.ensures.after,
       c.move_all-to.ensures.within_one,
+      stand_later _ _ _ _ _ _ _ c.move_all-to.ensures.stand c.move_all-to.ensures.after,
+      c.move_all-to.auto.nexts ∙ c.loop-from.invariant.4,
     )
 
 pub loop-from-init : goal.loop-from-init
@@ -22,6 +24,8 @@ loop-from-init g c =
       played_first _ _ _ _ (queues_of c.args.points.now) c.args.values.now _ _ _ c.requires.out,
       going_first _ _ _ _ (length_zeros (length c.args.ids.now) 64 c.requires.few) long (λ k. zeros (length c.args.ids.now) 64 k),
       c.requires.values.within,
+      none_stand _ _ _ _ _ (λ k. zeros (length c.args.ids.now) 64 k),
+      length_zeros (length c.args.ids.now) 64 c.requires.few,
     )
 
 pub returns-clause-values : goal.returns-clause-values

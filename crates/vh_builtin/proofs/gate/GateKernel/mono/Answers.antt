@@ -20,11 +20,11 @@ loop-i-preserved c =
     let level : c.level_of.result ≡ loudest (mono c.mono_key-key.result.now i) = search (rules, loudest_one) in
     let loud : c.is_loud-loud.result ≡ is_loud threshold key =
     c.is_loud-loud.ensures ∙ ap (λ l. nat_le (threshold / 2) l) level ∙ ap (λ (k : Frame). is_loud threshold k) (sym (c.mono_key-key.ensures.key i)) in
-    let left : c.left_after-left.result ≡ (if is_loud threshold key then hold else c.loop-i.left - 1) =
-    c.left_after-left.ensures ∙ ap (λ b. if b then c.index-hold.result else c.loop-i.left - 1) loud ∙ ap (λ h. if is_loud threshold key then h else c.loop-i.left - 1) c.index-hold.ensures in
-    let pass : c.passes.result ≡ (is_loud threshold key || nat_lt 0 c.loop-i.left || (bypass == 1)) =
-    c.passes.ensures ∙ ap (λ b. b || nat_lt 0 c.loop-i.left || (c.index-bypass.result == 1)) loud ∙ ap (λ n. is_loud threshold key || nat_lt 0 c.loop-i.left || (n == 1)) c.index-bypass.ensures in
-    let x : c.gated.result ≡ (if c.passes.result then get_or c.args.main.now i (pos 0) else pos 0) = search rules in
+    let left : c.open_on-pass.result.1 ≡ (if is_loud threshold key then hold else c.loop-i.left - 1) =
+    c.open_on-pass.ensures.left ∙ ap (λ b. if b then c.index-hold.result else c.loop-i.left - 1) loud ∙ ap (λ h. if is_loud threshold key then h else c.loop-i.left - 1) c.index-hold.ensures in
+    let pass : c.open_on-pass.result.0 ≡ (is_loud threshold key || nat_lt 0 c.loop-i.left || (bypass == 1)) =
+    c.open_on-pass.ensures.pass ∙ ap (λ b. b || nat_lt 0 c.loop-i.left || (c.index-bypass.result == 1)) loud ∙ ap (λ n. is_loud threshold key || nat_lt 0 c.loop-i.left || (n == 1)) c.index-bypass.ensures in
+    let x : c.gated.result ≡ (if c.open_on-pass.result.0 then get_or c.args.main.now i (pos 0) else pos 0) = search rules in
     let inside : i < length c.loop-i.out = omega (arith, c.loop-i-test.true, c.loop-i.auto.out) in
     rw (to_z-of_z w32 c.gated.result f)
     (mono_more _ _ _ _ _ _ _ _ _ _ c.loop-i.invariant inside (ap (λ n. pos n ∷ []) left)

@@ -21,12 +21,12 @@ loop-i-preserved c =
     let level : c.max-level.result ≡ loudest (stereo c.stereo_key.result.0.now c.stereo_key.result.1.now i) = search (rules, loudest_two) in
     let loud : c.is_loud-loud.result ≡ is_loud threshold key =
     c.is_loud-loud.ensures ∙ ap (λ l. nat_le (threshold / 2) l) level ∙ ap (λ (k : Frame). is_loud threshold k) (sym (c.stereo_key.ensures.key i)) in
-    let left : c.left_after-open.result ≡ (if is_loud threshold key then hold else c.loop-i.open - 1) =
-    c.left_after-open.ensures ∙ ap (λ b. if b then c.index-hold.result else c.loop-i.open - 1) loud ∙ ap (λ h. if is_loud threshold key then h else c.loop-i.open - 1) c.index-hold.ensures in
-    let pass : c.passes-pass.result ≡ (is_loud threshold key || nat_lt 0 c.loop-i.open || (bypass == 1)) =
-    c.passes-pass.ensures ∙ ap (λ b. b || nat_lt 0 c.loop-i.open || (c.index-bypass.result == 1)) loud ∙ ap (λ n. is_loud threshold key || nat_lt 0 c.loop-i.open || (n == 1)) c.index-bypass.ensures in
-    let x : c.gated-y.result ≡ (if c.passes-pass.result then get_or c.args.left.now i (pos 0) else pos 0) = search rules in
-    let w : c.gated-z.result ≡ (if c.passes-pass.result then get_or c.args.right.now i (pos 0) else pos 0) = search rules in
+    let left : c.open_on-pass.result.1 ≡ (if is_loud threshold key then hold else c.loop-i.open - 1) =
+    c.open_on-pass.ensures.left ∙ ap (λ b. if b then c.index-hold.result else c.loop-i.open - 1) loud ∙ ap (λ h. if is_loud threshold key then h else c.loop-i.open - 1) c.index-hold.ensures in
+    let pass : c.open_on-pass.result.0 ≡ (is_loud threshold key || nat_lt 0 c.loop-i.open || (bypass == 1)) =
+    c.open_on-pass.ensures.pass ∙ ap (λ b. b || nat_lt 0 c.loop-i.open || (c.index-bypass.result == 1)) loud ∙ ap (λ n. is_loud threshold key || nat_lt 0 c.loop-i.open || (n == 1)) c.index-bypass.ensures in
+    let x : c.gated-y.result ≡ (if c.open_on-pass.result.0 then get_or c.args.left.now i (pos 0) else pos 0) = search rules in
+    let w : c.gated-z.result ≡ (if c.open_on-pass.result.0 then get_or c.args.right.now i (pos 0) else pos 0) = search rules in
     let inside_left : i < length c.loop-i.out_left = omega (arith, c.loop-i-test.true, c.loop-i.auto.out_left) in
     let inside_right : i < length c.loop-i.out_right = omega (arith, c.loop-i-test.true, c.loop-i.auto.out_right, c.requires.out_left, c.requires.out_right) in
     let stands = is_loud threshold key || nat_lt 0 c.loop-i.open || (bypass == 1) in
