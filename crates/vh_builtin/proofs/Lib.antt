@@ -3,6 +3,7 @@ mod Ran
 mod Shares
 mod Meters
 mod Powers
+mod Marking
 mod Gates
 mod Taps
 mod Rings

@@ -23,6 +23,7 @@ pub mod Rests
 pub mod Held
 pub mod Modes
 pub mod Infos
+pub mod Marks
 pub mod Members
 pub mod Laws
 pub mod Lasts

@@ -1,9 +1,10 @@
 //! The gate.
 
-ghost use Rattle.std.specs.Prelude.{◌≡◌, ◌≤◌, ◌-◌, ◌/◌, ◌⊎◌, ℕ, [], ◌∷◌, ◌||◌, ◌==◌, nat_le, nat_lt, length, max, pos, if◌then◌else◌};
+ghost use Rattle.std.specs.Prelude.{◌≡◌, ◌≤◌, ◌-◌, ◌/◌, ◌⊎◌, ℕ, Bool, [], ◌∷◌, ◌||◌, ◌==◌, nat_le, nat_lt, length, max, pos, if◌then◌else◌};
 ghost use Rattle.vh_plugin.specs.Runs.{mono, stereo, aux_mono, aux_stereo};
 ghost use Rattle.vh_builtin.specs.Frames.{magnitude};
 ghost use Rattle.vh_builtin.specs.Gate.{gate, key_of};
+ghost use Rattle.vh_builtin.specs.Marks.{mark_of, loud_at, AreMarked};
 
 use vh_num::index;
 use vh_plugin::Kernel;
@@ -60,6 +61,29 @@ fn is_loud(threshold: u32, level: u32) -> bool
     level >= threshold / 2
 }
 
+/// Marks each frame by 1 where its key is loud, else by 0. This loop stands alone since no frame of it waits
+/// for the one before.
+#[inline(always)]
+fn mark_loud(threshold: u32, key: &[i32], key_right: &[i32], marks: &mut [i32])
+    requires long { length key.now ≡ length marks.old }
+    requires long_right { length key_right.now ≡ length marks.old }
+    ensures long { length marks.new ≡ length marks.old }
+    ensures marks { AreMarked (loud_at threshold key.now key_right.now) 0 (length marks.old) marks.new }
+{
+    for i in 0..marks.len() {
+        let level = level_of(key[i]).max(level_of(key_right[i]));
+        marks[i] = i32::from(is_loud(threshold, level));
+    }
+}
+
+/// Whether a frame is marked.
+#[inline(always)]
+fn is_marked(mark: i32) -> bool
+    ensures { (loud : Bool) → mark ≡ mark_of loud → result ≡ loud }
+{
+    mark == 1
+}
+
 /// Whether the gate lets a sample pass, and how many samples more it stands open then.
 #[inline(always)]
 fn open_on(loud: bool, hold: u32, left: u32, bypass: u32) -> (bool, u32)
@@ -95,12 +119,12 @@ impl Kernel for Gate {
 
     fn mono(&mut self, values: &[u32], main: &[i32], aux: &[i32], out: &mut [i32]) {
         let key = mono_key(main, aux);
-        let threshold = values[0];
         let hold = index(values[1], 4095);
         let bypass = index(values[2], 1);
         let mut left = self.left;
+        mark_loud(values[0], key, key, out);
         for i in 0..out.len() {
-            let loud = is_loud(threshold, level_of(key[i]));
+            let loud = is_marked(out[i]);
             let (pass, after) = open_on(loud, hold, left, bypass);
             out[i] = gated(pass, main[i]);
             left = after;
@@ -119,13 +143,12 @@ impl Kernel for Gate {
         out_right: &mut [i32],
     ) {
         let (key, key_right) = stereo_key(left, right, aux_left, aux_right);
-        let threshold = values[0];
         let hold = index(values[1], 4095);
         let bypass = index(values[2], 1);
         let mut open = self.left;
+        mark_loud(values[0], key, key_right, out_left);
         for i in 0..out_left.len() {
-            let level = level_of(key[i]).max(level_of(key_right[i]));
-            let loud = is_loud(threshold, level);
+            let loud = is_marked(out_left[i]);
             let (pass, after) = open_on(loud, hold, open, bypass);
             let y = gated(pass, left[i]);
             let z = gated(pass, right[i]);
