@@ -62,7 +62,7 @@ fn is_loud(threshold: u32, level: u32) -> bool
 }
 
 /// Marks each frame by 1 where its key is loud, else by 0. This loop stands alone since no frame of it waits
-/// for the one before.
+/// for the one before. The marks stand in a channel that is written after: each is read before its sample.
 #[inline(always)]
 fn mark_loud(threshold: u32, key: &[i32], key_right: &[i32], marks: &mut [i32])
     requires long { length key.now ≡ length marks.old }
