@@ -23,9 +23,6 @@ echo_more time mix feedback us main k kept next out y is inside gives keeps = re
   ] refl;
 }
 
-pub echo_first : (time mix feedback : ℕ) (us main out : List ℤ) → IsEcho time mix feedback us main 0 us out
-echo_first time mix feedback us main out = record { kept_are = refl; given = λ place lt. absurd (omega (arith, lt)) }
-
 -- what was kept some samples ago stands in the ring
 ago_in_ring : (time : ℕ) (ring : List ℤ) (at read k : ℕ) (x : ℤ) → 1 ≤ time → time ≤ 4095 → read ≡ (at + 4096 - time) % 4096 → at + k ≤ 4096 → read + k < 4096 → ago time (history ring (at + k)) x ≡ get_or ring (read + k) (pos 0)
 ago_in_ring zero ring at read k x some most is in_write in_read = absurd (omega (arith, some))

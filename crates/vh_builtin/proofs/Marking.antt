@@ -1,12 +1,12 @@
 -- Marks that are read one after the other, where what was read is written over.
 use mir.Val.{to_z, of_z}
-use Rattle.std.proofs.Common.{w32, true, false, refl, ◌≡◌, ◌≢◌, ℕ, ◌+◌, ◌/◌, ◌≤◌, nat_le, max, [], ◌∷◌, Bool, ℤ, pos, List, set, get_or, ap, sym, ◌∙◌, arith}
+use Rattle.std.proofs.Common.{w32, true, false, refl, ◌≡◌, ◌≢◌, ℕ, ◌+◌, ◌/◌, ◌≤◌, nat_le, [], ◌∷◌, Bool, ℤ, pos, List, set, get_or, ap, sym, ◌∙◌, arith}
 use Rattle.std.proofs.lemmas.List.{get_or-set_other}
 use Rattle.vh_plugin.specs.Class.{Frame}
 use Rattle.vh_plugin.specs.Runs.{mono, stereo, aux_mono, aux_stereo}
 use Rattle.vh_builtin.specs.Gate.{is_loud, key_of}
-use Rattle.vh_builtin.specs.Frames.{magnitude, loudest}
-use Rattle.vh_builtin.specs.Marks.{mark_of, are_loud, loud_at, AreMarked}
+use Rattle.vh_builtin.specs.Frames.{loudest}
+use Rattle.vh_builtin.specs.Marks.{mark_of, loud_at, AreMarked}
 
 behind : (i k : ℕ) → i + 1 ≤ k → k ≢ i
 behind i k le same = absurd (omega (arith, le, same))
@@ -24,11 +24,8 @@ mono_loud threshold main aux place = is_loud threshold (key_of (mono main place)
 abbrev pub stereo_loud : ℕ → List ℤ → List ℤ → List ℤ → List ℤ → ℕ → Bool
 stereo_loud threshold left right aux_left aux_right place = is_loud threshold (key_of (stereo left right place) (aux_stereo aux_left aux_right place))
 
-one_loud : (threshold : ℕ) (x : ℤ) → are_loud threshold x x ≡ is_loud threshold (x ∷ [])
-one_loud threshold x = ap (λ n. nat_le (threshold / 2) n) (let e : max (magnitude x) (magnitude x) ≡ loudest (x ∷ []) = omega arith in e)
-
-two_loud : (threshold : ℕ) (x y : ℤ) → are_loud threshold x y ≡ is_loud threshold (x ∷ y ∷ [])
-two_loud threshold x y = ap (λ n. nat_le (threshold / 2) n) (let e : max (magnitude x) (magnitude y) ≡ loudest (x ∷ y ∷ []) = omega arith in e)
+one_loud : (threshold : ℕ) (x : ℤ) → is_loud threshold (x ∷ x ∷ []) ≡ is_loud threshold (x ∷ [])
+one_loud threshold x = ap (λ n. nat_le (threshold / 2) n) (let e : loudest (x ∷ x ∷ []) ≡ loudest (x ∷ []) = omega arith in e)
 
 pub marked_mono : (threshold : ℕ) (main aux key : List ℤ) (end : ℕ) (marks : List ℤ) → ((place : ℕ) → key_of (mono main place) (aux_mono aux place) ≡ mono key place)
     → AreMarked (loud_at threshold key key) 0 end marks → AreMarked (mono_loud threshold main aux) 0 end marks
@@ -40,7 +37,7 @@ pub marked_stereo : (threshold : ℕ) (left right aux_left aux_right key key_rig
     → AreMarked (loud_at threshold key key_right) 0 end marks → AreMarked (stereo_loud threshold left right aux_left aux_right) 0 end marks
 marked_stereo threshold left right aux_left aux_right key key_right end marks is are =
     marks_alike (loud_at threshold key key_right) (stereo_loud threshold left right aux_left aux_right) 0 end marks
-    (λ place. two_loud threshold (get_or key place (pos 0)) (get_or key_right place (pos 0)) ∙ ap (λ (k : Frame). is_loud threshold k) (sym (is place))) are
+    (λ place. ap (λ (k : Frame). is_loud threshold k) (sym (is place))) are
 
 pub marks_fit : (loud : Bool) → to_z w32 (of_z w32 (mark_of loud)) ≡ mark_of loud
 marks_fit true = refl

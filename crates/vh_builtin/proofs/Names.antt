@@ -53,6 +53,3 @@ first_more infos n info are is = record {
         (subst (λ (x : ClassInfo). IsBuiltIn n x) (sym (ap (λ i. get_or (infos ++ info ∷ []) i d) (let g : n ≡ length infos + 0 = omega (arith, here, place) in g) ∙ get_or-append-add infos (info ∷ []) 0 d)) is)
   ] refl;
 }
-
-pub all_first : (infos : List ClassInfo) (n : ℕ) → AreFirst infos n → n ≡ 8 → AreBuiltIn infos
-all_first infos n are is = record { eight = are.long ∙ is; each = λ k d lt. are.each k d (omega (arith, lt, is)) }

@@ -117,14 +117,6 @@ moving_more ids queues passed values nexts from i passed' values' nexts' next co
   others_nexts = λ k le. kept nexts nexts' i k sooner are.others_nexts le;
 }
 
--- a value that stands is moved by nothing
-pub stands_moved : (points : List (ℕ × ℕ)) (passed value from next : ℕ) → Stands points passed value from next → IsMoved points passed value from passed value next
-stands_moved points passed value from next stands = record { goes_on = goes_on_here (drop passed points) value from; still = stands }
-
--- a value that was moved stands
-pub moved_stands : (points : List (ℕ × ℕ)) (passed value from passed' value' next : ℕ) → IsMoved points passed value from passed' value' next → Stands points passed' value' from next
-moved_stands points passed value from passed' value' next is place le lt = is.goes_on.later place le ∙ is.still place le lt
-
 -- the parameter at hand stands as before
 pub stands_here : (ids : List ℕ) (queues : List Queue) (passed values nexts : List ℕ) (from i : ℕ) (passed' values' nexts' : List ℕ) (next : ℕ)
     → AreMoving ids queues passed values nexts from i passed' values' nexts' next → AllStand ids queues passed values from nexts → i < length ids
