@@ -1,0 +1,16 @@
+mod Orders
+mod After
+mod ByNode
+mod Layers
+mod Cycles
+mod Ready
+mod Kept
+mod Searching
+mod Rejoined
+mod Left
+mod Work
+mod Rounds
+mod Placed
+mod Turns
+mod Layered
+mod Refused

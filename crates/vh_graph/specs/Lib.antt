@@ -1,0 +1,5 @@
+pub mod Paths
+pub mod Order
+pub mod Laws
+pub mod Steps
+pub mod Model
