@@ -1,9 +1,9 @@
 -- Lists by node, filled wire by wire.
-use Rattle.std.proofs.Common.{◌≡◌, ◌∙◌, ℕ, zero, suc, ◌+◌, ◌<◌, ◌==◌, true, false, cond, List, [], ◌∷◌, ◌++◌, length, get_or, set, take, map, refl, sym, ap, subst, arith}
+use Rattle.std.proofs.Common.{◌≡◌, ◌∙◌, ℕ, ◌+◌, ◌<◌, ◌==◌, true, false, cond, List, [], ◌∷◌, ◌++◌, length, get_or, set, take, map, refl, sym, ap, subst, arith}
 use Rattle.std.specs.Prelude.{filter, Vec}
 use Rattle.std.specs.declared.alloc.Global.{Global}
 use Rattle.std.proofs.lemmas.Bool.{eqb-true, eqb-false}
-use Rattle.std.proofs.lemmas.List.{get_or-set_same, get_or-set_other, length-set, append-nil}
+use Rattle.std.proofs.lemmas.List.{get_or-set_same, get_or-set_other, length-set, append-nil, take_more}
 use Rattle.vh_graph.specs.Paths.{sources_of, AreSources}
 
 one_more : (wires : List (ℕ × ℕ)) (wire : ℕ × ℕ) (node : ℕ) → sources_of (wires ++ wire ∷ []) node ≡ sources_of wires node ++ cond (wire.1 == node) (wire.0 ∷ []) []
@@ -18,16 +18,11 @@ one_more (w ∷ ws) wire node =
       | false ↦ one_more ws wire node
     ]
 
-taken_more : (wires : List (ℕ × ℕ)) (i : ℕ) (d : ℕ × ℕ) → i < length wires → take (suc i) wires ≡ take i wires ++ get_or wires i d ∷ []
-taken_more [] i d lt = absurd (omega (arith, lt))
-taken_more (w ∷ ws) zero d lt = refl
-taken_more (w ∷ ws) (suc i) d lt = ap (λ xs. w ∷ xs) (taken_more ws i d (omega (arith, lt)))
-
 pub sources_more : (wires : List (ℕ × ℕ)) (i : ℕ) (wire : ℕ × ℕ) (lists : List (Vec ℕ Global)) (list : Vec ℕ Global) → i < length wires → get_or wires i (0, 0) ≡ wire → wire.1 < length lists
     → list.items ≡ (get_or lists wire.1 list).items ++ wire.0 ∷ [] → AreSources (take i wires) lists → AreSources (take (i + 1) wires) (set lists wire.1 list)
 sources_more wires i wire lists list lt is inside added are node d within =
     let more : sources_of (take (i + 1) wires) node ≡ sources_of (take i wires) node ++ cond (wire.1 == node) (wire.0 ∷ []) [] =
-    ap (λ n. sources_of (take n wires) node) (let e : i + 1 ≡ suc i = omega arith in e) ∙ ap (λ ws. sources_of ws node) (taken_more wires i (0, 0) lt) ∙ ap (λ w. sources_of (take i wires ++ w ∷ []) node) is ∙ one_more (take i wires) wire node in
+    ap (λ ws. sources_of ws node) (take_more wires i (0, 0) lt) ∙ ap (λ w. sources_of (take i wires ++ w ∷ []) node) is ∙ one_more (take i wires) wire node in
     let long = length-set lists wire.1 list in
     let before : node < length lists = omega (arith, within, long) in
     elim (wire.1 == node) as (λ t. (wire.1 == node) ≡ t → sources_of (take (i + 1) wires) node ≡ sources_of (take i wires) node ++ cond t (wire.0 ∷ []) [] → (get_or (set lists wire.1 list) node d).items ≡ sources_of (take (i + 1) wires) node) [

@@ -15,10 +15,6 @@ use Rattle.vh_graph.proofs.Rejoined.{popped, rejoined}
 use Rattle.vh_graph.proofs.Left.{left, IsLast, AreLooped}
 use Rattle.vh_graph.proofs.Work.{unseen_work, work_less}
 
--- the search goes on over these lists, whatever wires they have
-abbrev pub GoesOn : List (Vec ℕ Global) → List Place → List ℕ → List Part → List ℕ → Type 0
-GoesOn lists places path parts unread = (wires : List (ℕ × ℕ)) → AreLinked wires lists → IsSearching wires places path parts unread []
-
 -- a place that isn't unseen is that of a node
 pub known : (places : List Place) (x : ℕ) → is_unseen (place places x) ≡ false → x < length places
 known [] x seen = absurd (true≢false seen)

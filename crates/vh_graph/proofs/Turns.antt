@@ -9,7 +9,7 @@ use Rattle.std.specs.Ordering.{nat_cmp, is_gt, MatchOrdering}
 use Rattle.std.specs.Cmp.{ranks, unsigned_tied}
 use mathlib.Core.Bool.{beq}
 use Rattle.std.proofs.Math.Seq.{drop-cons}
-use Rattle.std.proofs.lemmas.List.{length-set}
+use Rattle.std.proofs.lemmas.List.{length-replicate, length-set}
 use Rattle.std.proofs.lemmas.List.FromFn.{get_or-range_with_len, length-range_with_len}
 use Rattle.std.proofs.lemmas.List.Elements.{Contains-get_or}
 use Rattle.vh_graph.specs.declared.order.Placing.{Placing}
@@ -35,16 +35,12 @@ all_zero zero x = refl
 all_zero (suc n) zero = refl
 all_zero (suc n) (suc x) = all_zero n x
 
-length_replicate : {X : Type 0} → (n : ℕ) (a : X) → length (replicate n a) ≡ n
-length_replicate zero a = refl
-length_replicate (suc n) a = ap (λ m. suc m) (length_replicate n a)
-
 pub begun : (lists : List (Vec ℕ Global)) (placing : Placing) → IsBegun (length lists) placing → KeepsPlacing lists placing (range_with_len 0 (length lists))
 begun lists placing is =
     let n = length lists in
     record {
-      stands_long = ap (λ b. length b) is.stands ∙ length_replicate n false;
-      passed_long = ap (λ b. length b) is.passed ∙ length_replicate n 0;
+      stands_long = ap (λ b. length b) is.stands ∙ length-replicate n false;
+      passed_long = ap (λ b. length b) is.passed ∙ length-replicate n 0;
       waiting_long = is.waiting;
       keeps = λ wires linked. subst (λ order. IsPlacing n wires order placing.stands.items placing.passed.items placing.waiting.items (contains nat_cmp placing.ready) (range_with_len 0 n)) (sym is.order)
           (placing_none n wires placing.stands.items placing.passed.items placing.waiting.items (contains nat_cmp placing.ready) (range_with_len 0 n)
@@ -138,12 +134,6 @@ range_done node n ge = let e : n - node ≡ 0 = omega (arith, ge) in ap (λ m. r
 
 pub drop_next : (xs : List ℕ) (i d : ℕ) → i < length xs → drop i xs ≡ get_or xs i d ∷ drop (i + 1) xs
 drop_next xs i d lt = drop-cons xs i d lt ∙ (let e : suc i ≡ i + 1 = omega arith in ap (λ m. get_or xs i d ∷ drop m xs) e)
-
-pub drop_done : (xs : List ℕ) (i : ℕ) → length xs ≤ i → drop i xs ≡ []
-drop_done [] zero le = refl
-drop_done [] (suc i) le = refl
-drop_done (x ∷ xs) zero le = absurd (omega (arith, le))
-drop_done (x ∷ xs) (suc i) le = drop_done xs i (omega (arith, le))
 
 below_of : (x y : ℕ) (o : Ordering) → MatchOrdering o (x < y) (x ≡ y) (y < x) → is_gt o ≡ false → x ≤ y
 below_of x y Less is not = omega (arith, is)
