@@ -60,6 +60,7 @@ impl Classes {
     /// The number of the class of a name.
     pub fn find(&self, name: &[u8]) -> Option<u32>
         ensures some { IfSome result (λ class. (class < length (classes_of self.now)) × ((d : Class) → label_text (slice_index_or (classes_of self.now) class d).name ≡ name.now)) }
+        ensures first { IfSome result (λ class. (before : ℕ) (d : Class) → before < class → label_text (slice_index_or (classes_of self.now) before d).name ≢ name.now) }
         ensures none { IfNone result ((class : ℕ) (d : Class) → class < length (classes_of self.now) → label_text (slice_index_or (classes_of self.now) class d).name ≢ name.now) }
     {
         for i in 0..self.list.len() {

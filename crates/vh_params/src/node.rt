@@ -85,6 +85,7 @@ impl NodeTable {
     /// The number of the node of a name.
     pub fn node(&self, name: &[u8]) -> Option<u32>
         ensures some { IfSome result (λ node. (node < length (nodes_of self.now)) × ((node_at (nodes_of self.now) node).name ≡ name.now)) }
+        ensures first { IfSome result (λ node. (before : ℕ) → before < node → (node_at (nodes_of self.now) before).name ≢ name.now) }
         ensures none { IfNone result (LacksName (nodes_of self.now) name.now) }
     {
         if name.len() > 32 {
@@ -96,7 +97,8 @@ impl NodeTable {
 
     /// A parameter of a node; None where the node or the parameter isn't there.
     pub fn info(&self, node: u32, id: u32) -> Option<&ParamInfo>
-        ensures { option_copied result ≡ info_in (nodes_of self.now) node id }
+        ensures value { option_copied result ≡ info_in (nodes_of self.now) node id }
+        ensures few_steps { IfSome result (λ param. param.now.steps ≤ 4095) }
     {
         if node >= self.len() {
             return None;

@@ -1,7 +1,7 @@
 use Rattle.std.proofs.Common.{sym, subst, ◌∙◌}
 use Rattle.vh_params.specs.Short.{label_text}
 use Rattle.vh_params.specs.Nodes.{nodes_of, LacksName}
-use Rattle.vh_params.proofs.NodeLists.{found_at, none_at, too_long}
+use Rattle.vh_params.proofs.NodeLists.{found_at, none_at, too_long, nodes_apart}
 use Rattle.vh_params.proofs.node.NodeTable.node.Goals as goal
 
 pub returns-then-name-gt32-clause-none : goal.returns-then-name-gt32-clause-none
@@ -16,3 +16,8 @@ pub returns-clause-some : goal.returns-clause-some
 returns-clause-some c =
     let found = found_at c.args.self.now.nodes.entries c.new.result c.in_ok-node.node c.in_ok-node.ensures.within (sym c.in_ok-node.ensures.index) in
     (found.0, found.1 ∙ c.new.ensures)
+
+pub returns-clause-first : goal.returns-clause-first
+returns-clause-first c before lt same =
+    let found = found_at c.args.self.now.nodes.entries c.new.result c.in_ok-node.node c.in_ok-node.ensures.within (sym c.in_ok-node.ensures.index) in
+    nodes_apart c.args.self.now.nodes.entries c.in_ok-node.ensures.unique before c.in_ok-node.node lt found.0 (same ∙ sym (found.1 ∙ c.new.ensures))
