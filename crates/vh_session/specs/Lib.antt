@@ -1,0 +1,17 @@
+pub mod Kinds
+pub mod Entry
+pub mod Rules
+pub mod Lines
+pub mod Reading
+pub mod Seen
+pub mod View
+pub mod Sound
+pub mod Follows
+pub mod Steps
+pub mod Content
+pub mod Ended
+pub mod Text
+pub mod Keeps
+pub mod Props
+pub mod Parts
+pub mod Names

@@ -1,0 +1,232 @@
+use super::{SessionFault, SessionKind, read};
+use std::alloc::Global;
+use std::test::Fail;
+use vh_ids::Tuid;
+use vh_num::Refusal;
+use vh_params::{
+    CAN_AUTOMATE, ClassInfo, Classes, IS_READ_ONLY, Label, ParamInfo, ParamTable, UnitInfo,
+};
+
+/// A continuous parameter.
+fn param(id: u32, flags: u32) -> ParamInfo {
+    ParamInfo {
+        id,
+        title: Label::new(b""),
+        units: Label::new(b""),
+        steps: 0,
+        first: 0,
+        unit: 0,
+        flags,
+    }
+}
+
+/// One class, with an aux bus and seven parameters: the second can't be automated, the third is only read.
+fn classes(alloc: Global) -> Result<Classes, Fail> {
+    let params = [
+        param(0, CAN_AUTOMATE),
+        param(1, 0),
+        param(2, IS_READ_ONLY),
+        param(3, CAN_AUTOMATE),
+        param(4, CAN_AUTOMATE),
+        param(5, CAN_AUTOMATE),
+        param(6, CAN_AUTOMATE),
+    ];
+    let mut list = Vec::new(alloc);
+    list.push(ClassInfo {
+        name: Label::new(b"gate"),
+        component: Tuid([0; 16]),
+        controller: Tuid([0; 16]),
+        aux: true,
+        params: ParamTable::new(alloc, &params, &[UnitInfo::root(Label::new(b"Root"))])?,
+    })?;
+    Ok(Classes::new(alloc, list)?)
+}
+
+/// What a text is refused for, behind the lines that each session has and three nodes.
+fn kind_of(alloc: Global, lines: &str) -> Result<Option<SessionFault>, Fail> {
+    let classes = classes(alloc)?;
+    let head =
+        "vsthost session 1\nlength 8\nchannels 1\nbits 16\npattern 64\nnode g gate\nnode e gate\nnode m gate\n";
+    let text = format!(in alloc; "{head}{lines}")?;
+    Ok(match read(alloc, text.as_bytes(), &classes) {
+        Err(Refusal::Fault(fault)) => Some(fault),
+        _ => None,
+    })
+}
+
+#[test]
+fn faults_of_lines(rt: HostRuntime) -> Result<(), Fail> {
+    let alloc = rt.alloc();
+    let rows = [
+        ("length 8", SessionKind::Repeated),
+        ("length x", SessionKind::BadNumber),
+        ("length 16777217", SessionKind::BadNumber),
+        ("length", SessionKind::Missing),
+        ("length 1 2", SessionKind::Extra),
+        ("lengths 1", SessionKind::UnknownWord),
+        ("vsthost session 1", SessionKind::UnknownWord),
+        ("length \t", SessionKind::BadByte),
+        ("channels 0", SessionKind::BadNumber),
+        ("bits 17", SessionKind::BadNumber),
+        ("pattern 0", SessionKind::BadNumber),
+        ("pattern 8193", SessionKind::BadNumber),
+        (
+            "pattern 1 1 1 1 1 1 1 1 1 1 1 1 1 1 1 1 1",
+            SessionKind::Extra,
+        ),
+        ("node in gate", SessionKind::BadName),
+        ("node g nosuch", SessionKind::UnknownClass),
+        ("node g gate", SessionKind::DuplicateNode),
+        ("preset x file", SessionKind::UnknownNode),
+        ("param m 2 x", SessionKind::ReadOnlyParam),
+        ("param g 7 0", SessionKind::UnknownParam),
+        ("param g x 0", SessionKind::BadNumber),
+        ("param g 0 16777217", SessionKind::BadNumber),
+        ("wire out g", SessionKind::UnknownNode),
+        ("wire g in", SessionKind::UnknownNode),
+        ("wire in out aux", SessionKind::BadWire),
+        ("wire in e main", SessionKind::BadWire),
+        ("wire in", SessionKind::Missing),
+        ("lane g 1 0 0 0", SessionKind::BadLane),
+        ("lane m 2 0 0 0", SessionKind::ReadOnlyParam),
+        ("lane g 0 25 0 0", SessionKind::BadNumber),
+        ("point 4 0", SessionKind::BadLane),
+        ("editor 1", SessionKind::BadEditor),
+        ("begin g 0", SessionKind::BadEditor),
+        ("begin x 0", SessionKind::UnknownNode),
+        ("tell g 1 2 3 4 5", SessionKind::Extra),
+        ("wait", SessionKind::Missing),
+    ];
+    for (line, kind) in rows {
+        let fault = kind_of(alloc, line)?;
+        assert_eq!(rt; fault, Some(SessionFault { line: 9, kind }));
+    }
+    Ok(())
+}
+
+#[test]
+fn faults_behind_other_lines(rt: HostRuntime) -> Result<(), Fail> {
+    let alloc = rt.alloc();
+    let rows = [
+        ("preset g a\npreset g b", 10, SessionKind::Repeated),
+        (
+            "param g 0 1\nparam g 1 1\nparam g 0 1",
+            11,
+            SessionKind::Repeated,
+        ),
+        (
+            "wire in e\nwire in e aux\n\n# twice\nwire in e",
+            13,
+            SessionKind::BadWire,
+        ),
+        (
+            "lane g 0 0 0 0\nlane e 0 0 0 0\nlane g 0 0 0 0",
+            11,
+            SessionKind::BadLane,
+        ),
+        (
+            "lane g 0 0 5 0\n# a comment\npoint 6 0\npoint 6 0",
+            12,
+            SessionKind::BadLane,
+        ),
+        (
+            "lane g 0 0 5 0\nwire in out\npoint 6 0",
+            11,
+            SessionKind::BadLane,
+        ),
+        ("editor 0\neditor 0", 10, SessionKind::BadEditor),
+        ("wire g e\nwire e m\nwire m e aux", 7, SessionKind::Cycle(1)),
+    ];
+    for (lines, line, kind) in rows {
+        let fault = kind_of(alloc, lines)?;
+        assert_eq!(rt; fault, Some(SessionFault { line, kind }));
+    }
+    Ok(())
+}
+
+#[test]
+fn a_session_is_read_and_printed(rt: HostRuntime) -> Result<(), Fail> {
+    let alloc = rt.alloc();
+    let classes = classes(alloc)?;
+    let text =
+        "  vsthost  session 1\r\n# a verse\nlength   008\nchannels 2\nbits 24\n\npattern 37 64\nnode g gate\nnode e gate\nparam e 0 5\nparam g 1 7\nparam g 0 3\npreset e b.vstpreset\npreset g a\nwire in g\nwire g e aux\nlane g 0 4 10 20\npoint 11 30\neditor 0\nhold g\ntell e 1 02 3\neditor 1\nwait 4";
+    let session = read(alloc, text.as_bytes(), &classes)?;
+    assert_eq!(rt;
+        (session.length, session.channels, session.bits),
+        (8, 2, 24)
+    );
+    assert_eq!(rt;
+        session.firsts.as_slice(),
+        &[(0, 0, 3), (0, 1, 7), (1, 0, 5)][..]
+    );
+    let printed = session.print(alloc)?;
+    assert_eq!(rt;
+        printed.as_slice(),
+        b"vsthost session 1\nlength 8\nchannels 2\nbits 24\npattern 37 64\nnode g gate\nnode e gate\npreset g a\npreset e b.vstpreset\nparam g 0 3\nparam g 1 7\nparam e 0 5\nwire in g\nwire g e aux\nlane g 0 4 10 20\npoint 11 30\neditor 0\nhold g\ntell e 1 2 3\neditor 1\nwait 4\n".as_slice()
+    );
+    let again = read(alloc, printed.as_slice(), &classes)?;
+    assert_eq!(rt; again.print(alloc)?.as_slice(), printed.as_slice());
+    Ok(())
+}
+
+#[test]
+fn whole_texts_are_refused(rt: HostRuntime) -> Result<(), Fail> {
+    let alloc = rt.alloc();
+    let classes = classes(alloc)?;
+    let rows = [
+        ("", 1, SessionKind::BadHeader),
+        ("vsthost session 2", 1, SessionKind::BadHeader),
+        ("# a verse\nvsthost session 1", 1, SessionKind::BadHeader),
+        ("vsthost session 1", 2, SessionKind::NoLine),
+        (
+            "vsthost session 1\nlength 1\nchannels 1\nbits 16\n",
+            5,
+            SessionKind::NoLine,
+        ),
+    ];
+    for (text, line, kind) in rows {
+        let fault = match read(alloc, text.as_bytes(), &classes) {
+            Err(Refusal::Fault(fault)) => Some(fault),
+            _ => None,
+        };
+        assert_eq!(rt; fault, Some(SessionFault { line, kind }));
+    }
+    Ok(())
+}
+
+#[test]
+fn lanes_at_their_limit(rt: HostRuntime) -> Result<(), Fail> {
+    let alloc = rt.alloc();
+    let classes = classes(alloc)?;
+    let mut text = Vec::from_slice(
+        alloc,
+        b"vsthost session 1\nlength 8\nchannels 1\nbits 16\npattern 64\n",
+    )?;
+    for node in 0..64 {
+        let line = format!(in alloc; "node n{node} gate\n")?;
+        text.extend_from_slice(line.as_bytes())?;
+    }
+    for node in 0..64 {
+        for id in [0, 3, 4, 5] {
+            let line = format!(in alloc; "lane n{node} {id} 0 0 0\n")?;
+            text.extend_from_slice(line.as_bytes())?;
+        }
+    }
+    let session = read(alloc, text.as_slice(), &classes)?;
+    assert_eq!(rt; session.lanes.len(), 256);
+    let rows = [
+        ("lane n0 0 0 0 0", SessionKind::BadLane),
+        ("lane n0 6 0 0 0", SessionKind::TooMany),
+        ("node m gate", SessionKind::TooMany),
+    ];
+    for (line, kind) in rows {
+        let mut longer = Vec::from_slice(alloc, text.as_slice())?;
+        longer.extend_from_slice(line.as_bytes())?;
+        let fault = match read(alloc, longer.as_slice(), &classes) {
+            Err(Refusal::Fault(fault)) => Some(fault),
+            _ => None,
+        };
+        assert_eq!(rt; fault, Some(SessionFault { line: 326, kind }));
+    }
+    Ok(())
+}
