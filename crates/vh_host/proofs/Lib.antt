@@ -1,3 +1,4 @@
 pub mod Texts
 pub mod Output
 pub mod Final
+pub mod Answered

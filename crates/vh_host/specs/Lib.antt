@@ -5,6 +5,7 @@ pub mod Parsed
 pub mod Rendering
 pub mod Report
 pub mod Words
+pub mod Canonical
 pub mod Outside
 pub mod Stops
 pub mod Answers

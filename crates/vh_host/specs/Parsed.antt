@@ -1,7 +1,7 @@
 -- What the reader of a session answers.
 use Rattle.std.specs.Prelude.{Result, Ok, Err}
 use Rattle.vh_host.specs.declared.session.Asked.{Asked as Read}
-use Rattle.vh_host.specs.declared.status.SessionFault.{SessionFault}
+use Rattle.vh_session.specs.declared.fault.SessionFault.{SessionFault}
 use Rattle.vh_host.specs.SessionForm.{Asked}
 
 abbrev pub asked_of : Read → Asked

@@ -5,8 +5,7 @@ use Rattle.vh_host.specs.declared.status.Place.{Place}
 use Rattle.vh_host.specs.declared.status.Place.TheVariants.{Session, Input, Output, Report}
 use Rattle.vh_host.specs.declared.status.Status.{Status}
 use Rattle.vh_host.specs.declared.status.Status.TheVariants.{Ok, Usage, SessionRefused, WavRefused, ReadFault, WriteFault, Memory}
-use Rattle.vh_host.specs.declared.status.SessionKind.{SessionKind}
-use Rattle.vh_host.specs.declared.status.SessionKind.TheVariants.{BadHeader, TooLong, NotYet}
+use Rattle.vh_session.specs.Kinds.{kind_number}
 use Rattle.vh_wav.specs.declared.head.WavFault.{WavFault}
 use Rattle.vh_wav.specs.declared.head.WavFault.TheVariants.{NotRiff, NoFmt, BadFmt, Unsupported, NoData, Truncated, OtherChannels}
 use Rattle.vh_host.specs.SessionForm.{Asked, ended}
@@ -28,11 +27,6 @@ unfoldable pub report_text : Asked → List ℕ
 report_text asked = counts_text asked.length (piece_count asked.length asked.size) ++ (params_text asked.name ++ ended (codes "close"))
 
 -- the numbers of the faults
-abbrev pub session_number : SessionKind → ℕ
-session_number BadHeader = 1
-session_number TooLong = 20
-session_number NotYet = 21
-
 abbrev pub wav_number : WavFault → ℕ
 wav_number NotRiff = 1
 wav_number NoFmt = 2
@@ -52,7 +46,7 @@ place_name Report = codes "report"
 abbrev pub refused_text : Status → List ℕ
 refused_text Ok = []
 refused_text Usage = ended (codes "refused usage")
-refused_text (SessionRefused fault) = codes "refused session " ++ (decimal fault.line ++ (codes " " ++ ended (decimal (session_number fault.kind))))
+refused_text (SessionRefused fault) = codes "refused session " ++ (decimal fault.line ++ (codes " " ++ ended (decimal (kind_number fault.kind))))
 refused_text (WavRefused fault) = ended (codes "refused wav " ++ decimal (wav_number fault))
 refused_text (ReadFault place) = ended (codes "failed read " ++ place_name place)
 refused_text (WriteFault Report) = []

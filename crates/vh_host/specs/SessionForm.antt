@@ -3,9 +3,9 @@
 use Rattle.std.specs.Prelude.{ℕ, Bool, true, false, not, ◌||◌, ◌==◌, nat_lt, List, [], ◌∷◌, ◌++◌, length, Option, Some, None, Result, Ok, Err, option_and_then, if◌then◌else◌, codes}
 use Rattle.std.specs.Option.{option_map_or}
 use Rattle.std.specs.Str.{bytes_eq}
-use Rattle.vh_host.specs.declared.status.SessionFault.{SessionFault}
-use Rattle.vh_host.specs.declared.status.SessionKind.{SessionKind}
-use Rattle.vh_host.specs.declared.status.SessionKind.TheVariants.{BadHeader, TooLong, NotYet}
+use Rattle.vh_session.specs.declared.fault.SessionFault.{SessionFault}
+use Rattle.vh_session.specs.declared.fault.SessionKind.{SessionKind}
+use Rattle.vh_session.specs.declared.fault.SessionKind.TheVariants.{BadHeader, TooLong, NotYet}
 use Rattle.vh_host.specs.Lines.{line_at}
 use Rattle.vh_host.specs.Numbers.{plain_number, is_name, between}
 

@@ -9,8 +9,9 @@ use Rattle.vh_wav.specs.Text.{Frame, frames_text}
 use Rattle.vh_host.specs.declared.status.Place.TheVariants.{Session, Input}
 use Rattle.vh_host.specs.declared.status.Status.{Status}
 use Rattle.vh_host.specs.declared.status.Status.TheVariants as status
+use Rattle.vh_session.specs.declared.fault.SessionKind.TheVariants.{TooLong}
 use Rattle.vh_host.specs.declared.render.Samples.{Samples}
-use Rattle.vh_host.specs.SessionForm.{session_in}
+use Rattle.vh_host.specs.SessionForm.{session_in, session_limit, fault_at}
 use Rattle.vh_host.specs.Rendering.{input_in, gain_of, unity}
 use Rattle.vh_host.specs.Outside.{ReadAs}
 
@@ -23,6 +24,16 @@ SessionStops complete held name reads reads_now (status.WavRefused fault) = ⊥
 SessionStops complete held name reads reads_now (status.ReadFault place) = (place ≡ Session) × (Lacks complete held name ⊎ Rose reads reads_now)
 SessionStops complete held name reads reads_now (status.WriteFault place) = ⊥
 SessionStops complete held name reads reads_now status.Memory = ⊤
+
+-- a session that is refused before it is read is too long
+abbrev pub LongStops : Bool → Held → List ℕ → Status → Type 0
+LongStops complete held name (status.SessionRefused fault) = ReadAs complete held name (λ bytes. (session_limit < length bytes) × (fault ≡ fault_at 0 TooLong))
+LongStops complete held name status.Ok = ⊤
+LongStops complete held name status.Usage = ⊤
+LongStops complete held name (status.WavRefused fault) = ⊤
+LongStops complete held name (status.ReadFault place) = ⊤
+LongStops complete held name (status.WriteFault place) = ⊤
+LongStops complete held name status.Memory = ⊤
 
 -- the input couldn't be read, or isn't accepted
 abbrev pub InputStops : Bool → Held → List ℕ → ℕ → ℕ → Status → Type 0

@@ -8,7 +8,13 @@ pub record Names : Type 0 where
   pub input : List ℕ
   pub output : List ℕ
 
--- `render SESSION IN OUT`; there is no other command yet
-abbrev pub names_in : List (List ℕ) → Option Names
-names_in (command ∷ session ∷ input ∷ output ∷ []) = if bytes_eq command (codes "render") then Some (record { session = session; input = input; output = output }) else None
-names_in _ = None
+pub data Command : Type 0 where
+  Render : Names → Command
+  -- the session's file
+  Check : List ℕ → Command
+
+-- `render SESSION IN OUT` and `check SESSION`; there is no other command yet
+abbrev pub command_in : List (List ℕ) → Option Command
+command_in (word ∷ session ∷ input ∷ output ∷ []) = if bytes_eq word (codes "render") then Some (Render (record { session = session; input = input; output = output })) else None
+command_in (word ∷ session ∷ []) = if bytes_eq word (codes "check") then Some (Check session) else None
+command_in _ = None

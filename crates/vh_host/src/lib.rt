@@ -1,6 +1,7 @@
 //! The top calls of the host.
 #![tactic(auto)]
 
+mod check;
 mod gain;
 mod lines;
 mod render;
@@ -9,7 +10,7 @@ mod session;
 mod status;
 mod top;
 
-pub use status::{Place, SessionFault, SessionKind, Status};
+pub use status::{Place, Status};
 pub use top::run;
 
 #[cfg(test)]

@@ -10,9 +10,10 @@ ghost use Rattle.vh_host.specs.SessionForm.{session_limit};
 
 use crate::gain::{UNITY, apply_gain};
 use crate::session::SESSION_LIMIT;
-use crate::status::{Place, SessionFault, SessionKind, Status};
+use crate::status::{Place, Status};
 use std::alloc::Global;
 use vh_files::{Failed, Files, append_all, fill};
+use vh_session::{SessionFault, SessionKind};
 use vh_wav::{Head, HeadRefused, WavFault, frame_bytes, head_bytes, read_frames, read_head};
 
 /// The samples of an input of one channel, and its rate.
@@ -22,7 +23,7 @@ pub struct Samples {
     pub frames: Vec<i32>,
 }
 
-ghost use Rattle.vh_host.specs.Stops.{SessionStops, InputStops, IsInput, HasPart, HasBlocks, gained};
+ghost use Rattle.vh_host.specs.Stops.{SessionStops, LongStops, InputStops, IsInput, HasPart, HasBlocks, gained};
 
 /// Reads a session's bytes.
 pub fn read_session<F: Files>(alloc: Global, files: &mut F, name: &str) -> Result<Vec<u8>, Status>
@@ -30,6 +31,7 @@ pub fn read_session<F: Files>(alloc: Global, files: &mut F, name: &str) -> Resul
     ensures there { OnOk result (F.complete files.old ≡ true → IsSome (told (F.held files.old) name.now)) }
     ensures limit { IfOk result (λ text. length text.items ≤ session_limit) }
     ensures stop { IfErr result (SessionStops (F.complete files.old) (F.held files.old) name.now (F.read_faults files.old) (F.read_faults files.new)) }
+    ensures too_long { IfErr result (LongStops (F.complete files.old) (F.held files.old) name.now) }
     ensures only_read { OnlyRead (F.held files.old) (F.held files.new) (F.complete files.old) (F.complete files.new) (F.write_faults files.old) (F.write_faults files.new) (F.read_faults files.old) (F.read_faults files.new) }
 {
     let Ok(size) = files.size(name) else {

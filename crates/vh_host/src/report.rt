@@ -2,11 +2,11 @@
 
 ghost use Rattle.std.specs.Prelude.{◌≡◌, ◌≤◌, ◌<◌, ◌^◌, ◌++◌, IfOk};
 ghost use Rattle.std.specs.String.{string_bytes};
-ghost use Rattle.vh_host.specs.Report.{report_text, counts_text, refused_text, session_number, wav_number, place_name, status_number, piece_count};
+ghost use Rattle.vh_host.specs.Report.{report_text, counts_text, refused_text, wav_number, place_name, status_number, piece_count};
 ghost use Rattle.vh_host.specs.Parsed.{asked_of};
 
 use crate::session::Asked;
-use crate::status::{Place, SessionKind, Status};
+use crate::status::{Place, Status};
 use std::alloc::{AllocError, Global};
 use vh_wav::WavFault;
 

@@ -5,7 +5,7 @@ ghost use Rattle.vh_host.specs.SessionForm.{length_in, size_in, name_in, names, 
 ghost use Rattle.vh_host.specs.Parsed.{parsed};
 
 use crate::lines::{between, is_name, number, split_line};
-use crate::status::{SessionFault, SessionKind};
+use vh_session::{SessionFault, SessionKind};
 
 /// The most bytes that a session may have.
 pub const SESSION_LIMIT: u64 = 33_554_432;

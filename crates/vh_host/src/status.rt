@@ -1,6 +1,6 @@
 ghost use Rattle.std.specs.Prelude.{◌≡◌};
 
-use thiserror::Error;
+use vh_session::SessionFault;
 use vh_wav::WavFault;
 
 /// What a file or a text is for.
@@ -10,43 +10,6 @@ pub enum Place {
     Input,
     Output,
     Report,
-}
-
-/// What is wrong with a session.
-#[derive(Clone, Copy, Debug, PartialEq, Eq, Error)]
-pub enum SessionKind {
-    /// The first line isn't that of a session.
-    #[error("not a session's first line")]
-    BadHeader,
-    /// The session has more bytes than the limit.
-    #[error("too many bytes")]
-    TooLong,
-    /// The line departs from the form that is read so far.
-    #[error("not read yet")]
-    NotYet,
-}
-
-impl SessionKind {
-    ghost use Rattle.vh_host.specs.Report.{session_number};
-
-    /// The number of the kind in refusals.
-    pub fn number(self) -> u8
-        ensures { result ≡ session_number self }
-    {
-        match self {
-            SessionKind::BadHeader => 1,
-            SessionKind::TooLong => 20,
-            SessionKind::NotYet => 21,
-        }
-    }
-}
-
-/// The first fault of a session, with its line, from 1; 0 stands for the whole file.
-#[derive(Clone, Copy, Debug, PartialEq, Eq, Error)]
-#[error("line {line}: {kind}")]
-pub struct SessionFault {
-    pub line: u32,
-    pub kind: SessionKind,
 }
 
 /// How a top call ended.

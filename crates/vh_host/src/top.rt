@@ -1,16 +1,19 @@
 //! The top call.
 
-ghost use Rattle.std.specs.Prelude.{◌≡◌, ◌≤◌, List, map, Option, option_map, IfErr, OnOk, Result};
+ghost use Rattle.std.specs.Prelude.{◌≡◌, ◌≤◌, map, IfErr, OnOk};
 ghost use Rattle.std.specs.String.{string_bytes};
 ghost use Rattle.vh_files.specs.Causes.{Rose};
-ghost use Rattle.vh_host.specs.Words.{names_in};
+ghost use Rattle.vh_host.specs.Words.{command_in};
 
+use crate::check::check;
 use crate::render::{read_input, read_session, write_output};
 use crate::report::{refusal, report};
 use crate::session::parse;
 use crate::status::{Place, Status};
 use std::alloc::Global;
 use vh_files::{Files, Say, say_all};
+use vh_params::Classes;
+use vh_plugin::PluginSet;
 
 /// The files of a rendering.
 #[derive(Clone, Copy)]
@@ -20,24 +23,39 @@ struct Names<'a> {
     output: &'a str,
 }
 
-ghost use Rattle.vh_host.specs.Outside.{Outside, IsRefusal, IsRefused};
+/// A command, with its files.
+#[derive(Clone, Copy)]
+enum Command<'a> {
+    Render(Names<'a>),
+    Check(&'a str),
+}
+
 ghost use Rattle.vh_files.specs.Store.{SameElsewhere};
-ghost use Rattle.vh_host.specs.Answers.{Answers, ChangesOnlyOutput, Renders, RenderStops};
+ghost use Rattle.vh_params.specs.ClassList.{classes_of};
+ghost use Rattle.vh_host.specs.Answers.{Answers, RenderAnswers, CheckAnswers, ChangesOnlyOutput, Renders, RenderStops};
 ghost use Rattle.vh_host.specs.Complete.{IsUnhindered, IsDone};
-ghost use Rattle.vh_host.specs.Named.{named, names_of};
+ghost use Rattle.vh_host.specs.Named.{commanded, names_of};
+ghost use Rattle.vh_host.specs.Outside.{Outside, IsRefusal, IsRefused};
 
 /// Reads the words of a command.
-fn read_words(words: &[String]) -> Option<Names<'_>>
-    ensures { named result ≡ names_in (map string_bytes words.now) }
+fn read_words(words: &[String]) -> Option<Command<'_>>
+    ensures { commanded result ≡ command_in (map string_bytes words.now) }
 {
     match words {
         [command, session, input, output] => {
             if command.as_str() == "render" {
-                Some(Names {
+                Some(Command::Render(Names {
                     session: session.as_str(),
                     input: input.as_str(),
                     output: output.as_str(),
-                })
+                }))
+            } else {
+                None
+            }
+        }
+        [command, session] => {
+            if command.as_str() == "check" {
+                Some(Command::Check(session.as_str()))
             } else {
                 None
             }
@@ -105,27 +123,80 @@ fn refuse<Y: Say>(alloc: Global, say: &mut Y, status: Status) -> Status
     status
 }
 
-/// Runs a command. The one that there is yet is `render SESSION IN OUT`: it renders a session of one
-/// gain over the frames of IN, a WAV file of one channel, to OUT, and says the report.
+/// Renders, and says the line of an answer that refuses.
+fn run_render<F: Files, Y: Say>(
+    alloc: Global,
+    names: &Names<'_>,
+    files: &mut F,
+    say: &mut Y,
+) -> Status
+    ensures answer { RenderAnswers (record { complete = F.complete files.old; old = F.held files.old; new = F.held files.new; reads = F.read_faults files.old; reads_now = F.read_faults files.new; writes = F.write_faults files.old; writes_now = F.write_faults files.new; said = Y.said say.old; said_now = Y.said say.new; faults = Y.faults say.old; faults_now = Y.faults say.new }) (names_of names.now) result }
+    ensures others { SameElsewhere names.now.output.now (F.held files.old) (F.held files.new) }
+    ensures complete { F.complete files.new ≡ F.complete files.old }
+    ensures reads { F.read_faults files.old ≤ F.read_faults files.new }
+    ensures writes { F.write_faults files.old ≤ F.write_faults files.new }
+    ensures faults { Y.faults say.old ≤ Y.faults say.new }
+{
+    match render(alloc, names, files, say) {
+        Ok(()) => Status::Ok,
+        Err(Status::Memory) => Status::Memory,
+        Err(Status::WriteFault(Place::Report)) => Status::WriteFault(Place::Report),
+        Err(status) => refuse(alloc, say, status),
+    }
+}
+
+/// Checks a session, and says the line of an answer that refuses.
+fn run_check<F: Files, Y: Say>(
+    alloc: Global,
+    name: &str,
+    files: &mut F,
+    say: &mut Y,
+    classes: &Classes,
+) -> Status
+    ensures answer { CheckAnswers (classes_of classes.now) (record { complete = F.complete files.old; old = F.held files.old; new = F.held files.new; reads = F.read_faults files.old; reads_now = F.read_faults files.new; writes = F.write_faults files.old; writes_now = F.write_faults files.new; said = Y.said say.old; said_now = Y.said say.new; faults = Y.faults say.old; faults_now = Y.faults say.new }) name.now result }
+    ensures held { F.held files.new ≡ F.held files.old }
+    ensures complete { F.complete files.new ≡ F.complete files.old }
+    ensures reads { F.read_faults files.old ≤ F.read_faults files.new }
+    ensures writes { F.write_faults files.new ≡ F.write_faults files.old }
+    ensures faults { Y.faults say.old ≤ Y.faults say.new }
+{
+    match check(alloc, name, files, say, classes) {
+        Ok(()) => Status::Ok,
+        Err(Status::Memory) => Status::Memory,
+        Err(Status::WriteFault(Place::Report)) => Status::WriteFault(Place::Report),
+        Err(status) => refuse(alloc, say, status),
+    }
+}
+
+/// Runs a command, of these:
+///
+/// - `render SESSION IN OUT` renders a session of one gain over the frames of IN, a WAV file of one channel, to
+///   OUT, and says the report.
+/// - `check SESSION` reads a session and says its canonical text; presets are not read.
 ///
 /// A refusal or a fault is said as one line. No file but OUT is changed, and none where the answer is
 /// a refusal.
-pub fn run<F: Files, Y: Say>(alloc: Global, words: &[String], files: &mut F, say: &mut Y) -> Status
-    ensures answer { Answers (record { complete = F.complete files.old; old = F.held files.old; new = F.held files.new; reads = F.read_faults files.old; reads_now = F.read_faults files.new; writes = F.write_faults files.old; writes_now = F.write_faults files.new; said = Y.said say.old; said_now = Y.said say.new; faults = Y.faults say.old; faults_now = Y.faults say.new }) (map string_bytes words.now) result }
+pub fn run<F: Files, Y: Say, S: PluginSet>(
+    alloc: Global,
+    words: &[String],
+    files: &mut F,
+    say: &mut Y,
+    set: &mut S,
+) -> Status
+    ensures answer { Answers (S.infos set.old) (record { complete = F.complete files.old; old = F.held files.old; new = F.held files.new; reads = F.read_faults files.old; reads_now = F.read_faults files.new; writes = F.write_faults files.old; writes_now = F.write_faults files.new; said = Y.said say.old; said_now = Y.said say.new; faults = Y.faults say.old; faults_now = Y.faults say.new }) (map string_bytes words.now) result }
     ensures others { ChangesOnlyOutput (F.held files.old) (F.held files.new) (map string_bytes words.now) }
     ensures complete { F.complete files.new ≡ F.complete files.old }
     ensures reads { F.read_faults files.old ≤ F.read_faults files.new }
     ensures writes { F.write_faults files.old ≤ F.write_faults files.new }
     ensures faults { Y.faults say.old ≤ Y.faults say.new }
-    ensures completes { IsUnhindered (record { complete = F.complete files.old; old = F.held files.old; new = F.held files.new; reads = F.read_faults files.old; reads_now = F.read_faults files.new; writes = F.write_faults files.old; writes_now = F.write_faults files.new; said = Y.said say.old; said_now = Y.said say.new; faults = Y.faults say.old; faults_now = Y.faults say.new }) (map string_bytes words.now) → IsDone result }
+    ensures completes { IsUnhindered (S.infos set.old) (record { complete = F.complete files.old; old = F.held files.old; new = F.held files.new; reads = F.read_faults files.old; reads_now = F.read_faults files.new; writes = F.write_faults files.old; writes_now = F.write_faults files.new; said = Y.said say.old; said_now = Y.said say.new; faults = Y.faults say.old; faults_now = Y.faults say.new }) (map string_bytes words.now) → IsDone result }
+    ensures set { set.new ≡ set.old }
 {
-    let Some(names) = read_words(words) else {
+    let Some(command) = read_words(words) else {
         return refuse(alloc, say, Status::Usage);
     };
-    match render(alloc, &names, files, say) {
-        Ok(()) => Status::Ok,
-        Err(Status::Memory) => Status::Memory,
-        Err(Status::WriteFault(Place::Report)) => Status::WriteFault(Place::Report),
-        Err(status) => refuse(alloc, say, status),
+    match command {
+        Command::Render(names) => run_render(alloc, &names, files, say),
+        Command::Check(name) => run_check(alloc, name, files, say, set.classes()),
     }
 }

@@ -4,6 +4,7 @@
 use std::env::{self, Env};
 use std::io::{self, ErrorKind};
 use std::process::ExitCode;
+use vh_builtin::BuiltIn;
 use vh_files::{DiskFiles, OutSay};
 use vh_host::{Status, run};
 
@@ -17,14 +18,15 @@ fn read_words(rt: &(impl Env + AllocGlobal)) -> io::Result<Vec<String>> {
 }
 
 fn main(rt: HostRuntime) -> ExitCode {
-    let status = match read_words(&rt) {
-        Ok(words) => run(
+    let status = match (read_words(&rt), BuiltIn::new(rt.alloc())) {
+        (Ok(words), Ok(mut set)) => run(
             rt.alloc(),
             words.as_slice(),
             &mut DiskFiles::new(&rt),
             &mut OutSay::new(&rt),
+            &mut set,
         ),
-        Err(_) => Status::Memory,
+        _ => Status::Memory,
     };
     ExitCode::from(status.number())
 }

@@ -1,7 +1,8 @@
 use super::stores::{INPUT, render, run_words, session_with, store};
-use crate::{SessionFault, SessionKind, Status};
+use crate::Status;
 use std::test::Fail;
 use vh_files::{MemFiles, MemSay};
+use vh_session::{SessionFault, SessionKind};
 use vh_wav::WavFault;
 
 /// The status of a session that is refused.
@@ -122,6 +123,8 @@ fn words_that_are_no_command(rt: HostRuntime) -> Result<(), Fail> {
         "render",
         "render s",
         "render s in.wav",
+        "check",
+        "check s in.wav",
         "check s in.wav out.wav",
         "render s in.wav out.wav block=0",
         "render s in.wav out.wav x y",

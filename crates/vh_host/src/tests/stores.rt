@@ -2,7 +2,9 @@
 
 use crate::{Status, run};
 use std::alloc::{AllocError, Global};
-use vh_files::{Failed, Files, MemFiles, Say};
+use std::test::Fail;
+use vh_builtin::BuiltIn;
+use vh_files::{Failed, Files, MemFiles, MemSay, Say};
 
 /// The lines of a session of one gain.
 pub const LINES: [&str; 8] = [
@@ -54,7 +56,8 @@ pub fn run_words<F: Files, Y: Say>(
     for word in line.split(' ').filter(|word| !word.is_empty()) {
         command.push(String::from_str(alloc, word)?)?;
     }
-    Ok(run(alloc, command.as_slice(), files, say))
+    let mut set = BuiltIn::new(alloc)?;
+    Ok(run(alloc, command.as_slice(), files, say, &mut set))
 }
 
 /// Renders session `s` over `in.wav` to `out.wav`.
@@ -64,6 +67,15 @@ pub fn render<F: Files, Y: Say>(
     say: &mut Y,
 ) -> Result<Status, AllocError> {
     run_words(alloc, "render s in.wav out.wav", files, say)
+}
+
+/// What `check` says of this session, and how it ends.
+pub fn check(alloc: Global, session: &[u8]) -> Result<(Status, MemSay), Fail> {
+    let mut files = MemFiles::new(alloc)?;
+    files.put(alloc, "s", Vec::from_slice(alloc, session)?)?;
+    let mut say = MemSay::new(alloc)?;
+    let status = run_words(alloc, "check s", &mut files, &mut say)?;
+    Ok((status, say))
 }
 
 /// A store that gives and takes one byte at a time.
