@@ -110,6 +110,40 @@ def check_example():
     expect("the example", (folder / "out.wav").read_bytes(), (TOP / "examples/tone.wav").read_bytes())
 
 
+def check_sessions():
+    verse = b"vsthost session 1\n# a verse\nlength   008\r\nchannels 1\nbits 16\npattern 37 64\nwire in out"
+    canonical = "vsthost session 1\nlength 8\nchannels 1\nbits 16\npattern 37 64\nwire in out\n"
+    head = "vsthost session 1\nlength 8\nchannels 1\nbits 16\npattern 64\n"
+    rows = [
+        ("a verse", verse, 0, canonical),
+        ("a canonical text", canonical.encode(), 0, canonical),
+        ("an empty session", b"", 2, "refused session 1 1\n"),
+        ("a wire from the output", f"{head}node a gain\nwire out a\n".encode(), 2, "refused session 7 10\n"),
+        ("a point behind no lane", f"{head}node a gain\nwire in a\nwire a out\npoint 4 0\n".encode(), 2, "refused session 9 15\n"),
+        ("a cycle", f"{head}node a gain\nnode b gain\nnode c gain\nwire a b\nwire b c\nwire c b\n".encode(), 2, "refused session 7 19\n"),
+        ("one byte more than the limit", canonical.encode() + b"\n" * (33554433 - len(canonical)), 2, "refused session 0 20\n"),
+        ("as many bytes as the limit", canonical.encode() + b"\n" * (33554432 - len(canonical)), 0, canonical),
+    ]
+    for name, text, status, said in rows:
+        folder = folder_with({"s": text})
+        expect(f"check of {name}", run(folder, ["check", "s"]), (status, said))
+    folder = folder_with({"s": verse})
+    expect("check of no file", run(folder, ["check", "nosuch"]), (6, "failed read session\n"))
+    expect("check of a folder", run(folder, ["check", "."]), (6, "failed read session\n"))
+    if pathlib.Path("/dev/full").exists():
+        with open("/dev/full", "wb") as full:
+            expect("a text that can't be said", run(folder, ["check", "s"], full)[0], 7)
+
+
+def check_examples():
+    for path in sorted((TOP / "examples").glob("*.vst")):
+        folder = folder_with({})
+        status, said = run(folder, ["check", str(path)])
+        expect(f"check of {path.name}", status, 0)
+        (folder / "again").write_text(said)
+        expect(f"{path.name} again", run(folder, ["check", "again"]), (0, said))
+
+
 def check_refusals():
     good = wav([0, 1000, -1])
     rows = [
@@ -136,7 +170,7 @@ def check_refusals():
         expect(name, run(folder, RENDER), (status, said))
         expect(name, sorted(path.name for path in folder.iterdir()), ["in.wav", "s"])
     folder = folder_with({})
-    for words in [[], ["render"], ["render", "s", "in.wav"], ["check", "s", "a", "b"], RENDER + ["block=0"], RENDER + ["x", "y"], [b"render", b"\xff", b"in.wav", b"out.wav"]]:
+    for words in [[], ["render"], ["render", "s", "in.wav"], ["check"], ["check", "s", "a"], ["check", "s", "a", "b"], RENDER + ["block=0"], RENDER + ["x", "y"], [b"render", b"\xff", b"in.wav", b"out.wav"]]:
         expect(f"words {words}", run(folder, words), (1, "refused usage\n"))
         expect(f"words {words}", list(folder.iterdir()), [])
 
@@ -169,6 +203,8 @@ with tempfile.TemporaryDirectory() as WORK:
     check_renderings()
     check_24_bits()
     check_example()
+    check_sessions()
+    check_examples()
     check_refusals()
     check_faults()
 sys.exit(TALLY.close("checks"))
