@@ -7,8 +7,9 @@ use Rattle.std.proofs.Math.Seq.{take-add}
 use Rattle.vh_files.specs.Causes.{Rose}
 use Rattle.vh_files.specs.Store.{Held, told, Lacks, HasNow, Grows, GrowsInPart}
 use Rattle.vh_wav.specs.Text.{frame_text, frames_text, frames_of, head_text, wav_text, data_size}
-use Rattle.vh_host.specs.SessionForm.{session_in, session_limit, fault_at}
+use Rattle.vh_host.specs.SessionForm.{session_in, fault_at}
 use Rattle.vh_session.specs.declared.fault.SessionKind.TheVariants.{TooLong}
+use Rattle.vh_session.specs.Reading.{session_limit}
 use Rattle.vh_host.specs.Rendering.{gain_of, unity}
 use Rattle.vh_host.specs.Outside.{ReadAs}
 use Rattle.vh_host.specs.Stops.{samples_in}

@@ -1,5 +1,5 @@
--- Numbers and names in texts.
-use Rattle.std.specs.Prelude.{ℕ, ◌+◌, ◌-◌, ◌*◌, Bool, not, ◌&&◌, ◌||◌, ◌==◌, nat_le, List, [], ◌∷◌, ◌++◌, length, take, drop, slice_index, Option, Some, None, if◌then◌else◌, codes}
+-- Numbers in texts.
+use Rattle.std.specs.Prelude.{ℕ, ◌+◌, ◌-◌, ◌*◌, Bool, not, ◌&&◌, ◌||◌, ◌==◌, nat_le, List, [], ◌∷◌, ◌++◌, length, take, drop, slice_index, Option, Some, None, if◌then◌else◌}
 use Rattle.std.specs.List.{list_all}
 use Rattle.std.specs.Str.{bytes_eq}
 
@@ -18,18 +18,6 @@ digits_within most text = if list_all is_digit text && nat_le (number_after 0 te
 -- the same of a text that isn't empty and has no leading zero
 abbrev pub plain_number : ℕ → List ℕ → Option ℕ
 plain_number most text = if (length text == 0) || (not (length text == 1) && (slice_index text 0 == 48)) then None else digits_within most text
-
-abbrev pub is_lower : ℕ → Bool
-is_lower b = nat_le 97 b && nat_le b 122
-
-abbrev pub is_name_byte : ℕ → Bool
-is_name_byte b = (is_lower b || is_digit b) || (b == 95)
-
--- 1 to 32 bytes, a lower-case letter and then lower-case letters, digits and `_`; not `in`, not `out`
-abbrev pub is_name : List ℕ → Bool
-is_name text =
-    ((nat_le 1 (length text) && nat_le (length text) 32) && (is_lower (slice_index text 0) && list_all is_name_byte text))
-    && (not (bytes_eq text (codes "in")) && not (bytes_eq text (codes "out")))
 
 -- what stands between this front and this back of a line
 abbrev pub between : List ℕ → List ℕ → List ℕ → Option (List ℕ)

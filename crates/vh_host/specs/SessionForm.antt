@@ -6,8 +6,10 @@ use Rattle.std.specs.Str.{bytes_eq}
 use Rattle.vh_session.specs.declared.fault.SessionFault.{SessionFault}
 use Rattle.vh_session.specs.declared.fault.SessionKind.{SessionKind}
 use Rattle.vh_session.specs.declared.fault.SessionKind.TheVariants.{BadHeader, TooLong, NotYet}
+use Rattle.vh_session.specs.Reading.{session_limit}
+use Rattle.vh_params.specs.Names.{is_name}
 use Rattle.vh_host.specs.Lines.{line_at}
-use Rattle.vh_host.specs.Numbers.{plain_number, is_name, between}
+use Rattle.vh_host.specs.Numbers.{plain_number, between}
 
 -- what such a session asks for: the frames of the output, the frames of a block, and the node's name
 pub record Asked : Type 0 where
@@ -21,9 +23,6 @@ ended words = words ++ 10 ∷ []
 
 abbrev pub header : List ℕ
 header = codes "vsthost session 1"
-
-abbrev pub session_limit : ℕ
-session_limit = 33554432
 
 -- `length L`, with L from 0 to 2^24
 abbrev pub length_in : List ℕ → Option ℕ

@@ -1,8 +1,8 @@
-//! Lines, numbers and names of the texts.
+//! Lines and numbers of the texts.
 
 ghost use Rattle.std.specs.Prelude.{◌≡◌, ◌≤◌, ◌^◌, ◌++◌, Option, Some, None, length, option_copied, IfSome};
 ghost use Rattle.vh_host.specs.Lines.{first_line, after_line};
-ghost use Rattle.vh_host.specs.Numbers.{digits_within, plain_number, is_name, is_name_byte, between};
+ghost use Rattle.vh_host.specs.Numbers.{digits_within, plain_number, between};
 
 /// Parts a text behind its first line, whose end byte stays with it.
 pub fn split_line(text: &[u8]) -> (&[u8], &[u8])
@@ -46,24 +46,6 @@ pub fn number(text: &[u8], most: u32) -> Option<u32>
         return None;
     }
     digits(text, most)
-}
-
-/// Whether the text is a node's name.
-pub fn is_name(text: &[u8]) -> bool
-    ensures { result ≡ is_name text.now }
-{
-    if text.is_empty() || text.len() > 32 || !text[0].is_ascii_lowercase() {
-        return false;
-    }
-    if text == b"in".as_slice() || text == b"out".as_slice() {
-        return false;
-    }
-    for &b in text {
-        if !(b.is_ascii_lowercase() || b.is_ascii_digit() || b == b'_') {
-            return false;
-        }
-    }
-    true
 }
 
 /// What stands between this front and this back of a line.

@@ -6,14 +6,13 @@ ghost use Rattle.vh_files.specs.Store.{told, Lacks, HasNow, SameElsewhere};
 ghost use Rattle.vh_wav.specs.Heads.{IsHead, frames_end};
 ghost use Rattle.vh_wav.specs.Samples.{sample_in};
 ghost use Rattle.vh_wav.specs.Text.{wav_text, frames_text};
-ghost use Rattle.vh_host.specs.SessionForm.{session_limit};
+ghost use Rattle.vh_session.specs.Reading.{session_limit};
 
 use crate::gain::{UNITY, apply_gain};
-use crate::session::SESSION_LIMIT;
 use crate::status::{Place, Status};
 use std::alloc::Global;
 use vh_files::{Failed, Files, append_all, fill};
-use vh_session::{SessionFault, SessionKind};
+use vh_session::{SESSION_LIMIT, SessionFault, SessionKind};
 use vh_wav::{Head, HeadRefused, WavFault, frame_bytes, head_bytes, read_frames, read_head};
 
 /// The samples of an input of one channel, and its rate.

@@ -1,14 +1,13 @@
 //! The sessions that are read so far.
 
 ghost use Rattle.std.specs.Prelude.{◌≡◌, ◌≤◌, Option, Some, None, Result, Ok, Err, option_copied, length, IfSome, IfOk, ◌^◌};
-ghost use Rattle.vh_host.specs.SessionForm.{length_in, size_in, name_in, names, fault_at, lines_in, session_in, session_limit};
+ghost use Rattle.vh_host.specs.SessionForm.{length_in, size_in, name_in, names, fault_at, lines_in, session_in};
+ghost use Rattle.vh_session.specs.Reading.{session_limit};
 ghost use Rattle.vh_host.specs.Parsed.{parsed};
 
-use crate::lines::{between, is_name, number, split_line};
+use crate::lines::{between, number, split_line};
+use vh_params::is_name;
 use vh_session::{SessionFault, SessionKind};
-
-/// The most bytes that a session may have.
-pub const SESSION_LIMIT: u64 = 33_554_432;
 
 /// What a session asks for.
 #[derive(Clone, Copy)]

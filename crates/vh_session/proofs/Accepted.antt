@@ -1,5 +1,5 @@
 -- What the rules on words leave.
-use Rattle.std.proofs.Common.{◌≡◌, ◌∙◌, ℕ, suc, ◌+◌, ◌<◌, ◌≤◌, ◌^◌, Bool, true, false, cond, List, [], ◌∷◌, length, refl, ap, subst, arith, Ok, Some, None, Option, nat_lt}
+use Rattle.std.proofs.Common.{◌≡◌, ◌∙◌, ℕ, suc, ◌+◌, ◌<◌, ◌≤◌, ◌^◌, Bool, true, false, cond, List, [], ◌∷◌, length, refl, ap, subst, arith, Ok, Some, None, Option, nat_lt, sym}
 use Rattle.std.specs.Prelude.{All, nat_le, not, ◌&&◌, codes, ok_or}
 use Rattle.std.specs.List.{find, list_all}
 use Rattle.std.specs.Str.{bytes_eq}
@@ -16,7 +16,7 @@ use Rattle.vh_session.specs.declared.wire.End.TheVariants.{In, Out, Node as AtNo
 use Rattle.vh_session.specs.Rules.{given, unless, arity, any_number, number_that, numbers_that, node_from, the_node, class_named, the_class, the_param, settable_param, is_read_only, first_end, last_end}
 use Rattle.vh_session.specs.Lines.{is_any}
 use Rattle.vh_session.specs.Keeps.{Begins, Ends}
-use Rattle.vh_session.proofs.Params.{found_again}
+use Rattle.vh_session.proofs.Params.{found_again, found_id}
 use Rattle.vh_session.proofs.Gives.{Gives, gives_ok, gives_err, gives_given, gives_unless, gives_if}
 
 -- the value that an option has
@@ -64,14 +64,14 @@ node_below (node ∷ nodes) name at n is = elim (bytes_eq node.name name) as (λ
 pub node_given : (nodes : List Node) (name : List ℕ) → Gives (λ node. node < length nodes) (the_node nodes name)
 node_given nodes name = gives_some (λ node. node < length nodes) (node_from 0 nodes name) UnknownNode (λ node is. let b = node_below nodes name 0 node is in omega (arith, b))
 
-pub param_given : (nodes : List Node) (node : ℕ) (text : List ℕ) → Gives (λ param. (info_in nodes node param.id ≡ Some param) × (is_read_only param ≡ false)) (settable_param nodes node text)
+pub param_given : (nodes : List Node) (node : ℕ) (text : List ℕ) → Gives (λ param. (info_in nodes node param.id ≡ Some param) × (is_read_only param ≡ false) × (is_any param.id ≡ true)) (settable_param nodes node text)
 param_given nodes node text =
-    let P : ParamInfo → Type 0 = λ param. info_in nodes node param.id ≡ Some param in
-    let Q : ParamInfo → Type 0 = λ param. (info_in nodes node param.id ≡ Some param) × (is_read_only param ≡ false) in
-    let there : Gives P (the_param nodes node text) = gives_given P (any_number text) (λ id. ok_or (info_in nodes node id) UnknownParam) (λ id is. gives_some P (info_in nodes node id) UnknownParam (λ param found. found_again nodes node id param found)) in
-    gives_given Q (the_param nodes node text) (λ param. unless (is_read_only param) ReadOnlyParam (Ok param)) (λ param is. gives_unless Q (is_read_only param) ReadOnlyParam (Ok param) (λ test. gives_ok Q param (there param is, test)))
+    let P : ParamInfo → Type 0 = λ param. (info_in nodes node param.id ≡ Some param) × (is_any param.id ≡ true) in
+    let Q : ParamInfo → Type 0 = λ param. (info_in nodes node param.id ≡ Some param) × (is_read_only param ≡ false) × (is_any param.id ≡ true) in
+    let there : Gives P (the_param nodes node text) = gives_given P (any_number text) (λ id. ok_or (info_in nodes node id) UnknownParam) (λ id is. gives_some P (info_in nodes node id) UnknownParam (λ param found. (found_again nodes node id param found, subst (λ i. is_any i ≡ true) (sym (found_id nodes node id param found)) (any_given text id is)))) in
+    gives_given Q (the_param nodes node text) (λ param. unless (is_read_only param) ReadOnlyParam (Ok param)) (λ param is. gives_unless Q (is_read_only param) ReadOnlyParam (Ok param) (λ test. gives_ok Q param ((there param is).0, test, (there param is).1)))
 
-found_holds : {A : Type 0} (p : A → Bool) (xs : List A) (x : A) → find p xs ≡ Some x → p x ≡ true
+pub found_holds : {A : Type 0} (p : A → Bool) (xs : List A) (x : A) → find p xs ≡ Some x → p x ≡ true
 found_holds p [] x is = absurd (subst (λ o. elim o as (λ _. Type 0) [ None ↦ Unit {0} | Some m ↦ ⊥ ]) is tt)
 found_holds p (y ∷ ys) x is = elim (p y) as (λ t. p y ≡ t → cond t (Some y) (find p ys) ≡ Some x → p x ≡ true) [
   | true ↦ λ test found. subst (λ z. p z ≡ true) (some_value y x found) test

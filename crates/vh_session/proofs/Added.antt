@@ -9,7 +9,7 @@ use Rattle.vh_params.specs.Nodes.{Node}
 use Rattle.vh_session.specs.declared.wire.Wire.{Wire}
 use Rattle.vh_session.specs.Entry.{Draft, LengthLine, ChannelsLine, BitsLine, PatternLine, PresetLine, ParamLine, WireLine, LaneLine, PointLine, EditorLine, ScriptLine, ScriptWord, LaneText, with_entry, with_last, with_break, no_lane, last_lane, last_sample, break_count}
 use Rattle.vh_session.specs.Rules.{is_within}
-use Rattle.vh_session.specs.Lines.{one, is_bits, has_aux}
+use Rattle.vh_session.specs.Lines.{one, is_any, is_bits, has_aux}
 use Rattle.vh_session.specs.Keeps.{EachBehind, AreSizes, IsFile, can_set, IsWireBehind, IsLaneBehind, IsScriptWord, word_count}
 use Rattle.vh_session.proofs.Breaks.{breaks_more}
 use Rattle.vh_session.proofs.Behind.{behind_more}
@@ -46,12 +46,12 @@ set_firsts nodes (f ∷ fs) (suc at) start new is fit (suc node) =
     let e : (n : ℕ) → suc start + n ≡ start + suc n = λ n. omega arith in
     subst (λ n. NodeFirsts nodes n (get_or (set fs at new) node [])) (e node) (set_firsts nodes fs at (suc start) new (subst (λ n. NodeFirsts nodes n new) (sym (e at)) is) (λ n. subst (λ m. NodeFirsts nodes m (get_or fs n [])) (sym (e n)) (fit (suc n))) node)
 
-pub param_added : (known : List ClassInfo) (draft : Draft) (line node id value : ℕ) → IsLegal known draft → can_set draft.nodes node id ≡ true → is_within 0 one value ≡ true → IsLegal known (with_entry line (ParamLine node id value) draft)
-param_added known draft line node id value legal can fits =
-    let P : ℕ × ℕ → Type 0 = λ first. (can_set draft.nodes node first.0 ≡ true) × (is_within 0 one first.1 ≡ true) in
+pub param_added : (known : List ClassInfo) (draft : Draft) (line node id value : ℕ) → IsLegal known draft → can_set draft.nodes node id ≡ true → is_any id ≡ true → is_within 0 one value ≡ true → IsLegal known (with_entry line (ParamLine node id value) draft)
+param_added known draft line node id value legal can small fits =
+    let P : ℕ × ℕ → Type 0 = λ first. (can_set draft.nodes node first.0 ≡ true) × (is_any first.0 ≡ true) × (is_within 0 one first.1 ≡ true) in
     let old = get_or draft.firsts node [] in
     let z : (n : ℕ) → 0 + n ≡ n = λ n. omega arith in
-    let new : NodeFirsts draft.nodes node (old ++ (id, value) ∷ []) = All-push P old (id, value) (legal.3.fit node) (can, fits) in
+    let new : NodeFirsts draft.nodes node (old ++ (id, value) ∷ []) = All-push P old (id, value) (legal.3.fit node) (can, small, fits) in
     let all = set_firsts draft.nodes draft.firsts node 0 (old ++ (id, value) ∷ []) (subst (λ n. NodeFirsts draft.nodes n (old ++ (id, value) ∷ [])) (sym (z node)) new) (λ n. subst (λ m. NodeFirsts draft.nodes m (get_or draft.firsts n [])) (sym (z n)) (legal.3.fit n)) in
     (legal.0, legal.1, legal.2, record { as_many = length-set draft.firsts node (old ++ (id, value) ∷ []) ∙ legal.3.as_many; fit = λ n. subst (λ m. NodeFirsts draft.nodes m (get_or (set draft.firsts node (old ++ (id, value) ∷ [])) n [])) (z n) (all n) }, legal.4, legal.5, legal.6)
 
@@ -87,6 +87,7 @@ behind_point nodes before (x ∷ []) sample value each rises few at within =
     let stands = each.0 in (
       record {
         param = stands.param;
+        id = stands.id;
         new = stands.new;
         grain = stands.grain;
         breaks = breaks_more x.breaks sample value stands.breaks few rises (is_one value within);

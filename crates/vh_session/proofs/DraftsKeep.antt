@@ -16,7 +16,7 @@ use Rattle.vh_text.specs.Tokens.{bad_byte}
 use Rattle.vh_session.specs.declared.fault.SessionKind.TheVariants.{BadHeader, BadByte, NoLine, TooLong}
 use Rattle.vh_session.specs.Entry.{Draft, Entry, no_draft, with_entry}
 use Rattle.vh_session.specs.Rules.{Checked, given, unless, is_within}
-use Rattle.vh_session.specs.Lines.{one, is_bits, line_of, line_of_words, words_of}
+use Rattle.vh_session.specs.Lines.{one, is_any, is_bits, line_of, line_of_words, words_of}
 use Rattle.vh_session.specs.Reading.{fault, is_skipped, with_line, after_line, lines_from, is_header, text_from, is_complete, session_limit, draft_of}
 use Rattle.vh_session.specs.Content.{presets_from, value_in, first_of, firsts_from, content_in, or_zero, node_wires}
 use Rattle.vh_session.specs.Keeps.{EachBehind, AreSizes, IsFile, ArePresets, can_set, is_earlier, IsFirstBehind, IsNodeBehind, IsSession, StandsUnder}
@@ -95,11 +95,11 @@ node_rises nodes node given (param ∷ params) done fit rising before =
     elim (value_in given param.id) as (λ found. value_in given param.id ≡ found → EachBehind (IsFirstBehind nodes) done (cons_option (option_map (λ value. (node, param.id, value)) found) (filter_map (first_of node given) params))) [
       | None ↦ λ is. rest done (before_tail node param params done before)
       | Some value ↦ λ is.
-          let P : ℕ × ℕ → Type 0 = λ first. (can_set nodes node first.0 ≡ true) × (is_within 0 one first.1 ≡ true) in
+          let P : ℕ × ℕ → Type 0 = λ first. (can_set nodes node first.0 ≡ true) × (is_any first.0 ≡ true) × (is_within 0 one first.1 ≡ true) in
           let fits = value_found P given param.id value is fit in
           let B : ℕ × ℕ × ℕ → Type 0 = λ other. (i : ℕ) (d : ParamInfo) → i < length params → is_earlier other (node, (get_or params i d).id, 0) ≡ true in
           let here : B (node, param.id, value) = λ i d il. earlier_id (node, param.id, value) (node, (get_or params i d).id, 0) refl (rising 0 (suc i) d (omega arith) (omega (arith, il))) in
-          (record { rising = λ k d lt. before k d lt 0 param (omega arith); settable = fits.0; value = fits.1 }, rest (done ++ (node, param.id, value) ∷ []) (All-push B done (node, param.id, value) (before_tail node param params done before) here))
+          (record { rising = λ k d lt. before k d lt 0 param (omega arith); settable = fits.0; id = fits.1; value = fits.2 }, rest (done ++ (node, param.id, value) ∷ []) (All-push B done (node, param.id, value) (before_tail node param params done before) here))
     ] refl
 
 behind_append : {A : Type 0} (Stands : List A → A → Type 0) (before xs ys : List A) → EachBehind Stands before xs → EachBehind Stands (before ++ xs) ys → EachBehind Stands before (xs ++ ys)

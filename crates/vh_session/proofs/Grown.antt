@@ -1,15 +1,14 @@
 -- What stays sound as nodes are added.
-use Rattle.std.proofs.Common.{◌≡◌, ℕ, ◌<◌, true, false, cond, List, [], ◌∷◌, ◌++◌, length, get_or, refl, sym, subst, arith, nat_lt, true≢false}
-use Rattle.std.specs.Prelude.{All, IsSome, None}
-use Rattle.std.proofs.lemmas.Bool.{ltb-true, lt-ltb}
-use Rattle.std.proofs.lemmas.List.{get_or_append_left, length-append}
-use Rattle.vh_params.specs.Params.{param_in}
-use Rattle.vh_params.specs.Nodes.{Node, node_at, no_node, info_in}
+use Rattle.std.proofs.Common.{◌≡◌, ℕ, ◌<◌, List, [], ◌∷◌, ◌++◌, get_or, refl, sym, ap, arith, true≢false}
+use Rattle.std.specs.Prelude.{All, IsSome, Some, None}
+use Rattle.std.specs.Option.{is_some}
+use Rattle.vh_params.specs.Nodes.{Node, info_in}
 use Rattle.vh_session.specs.declared.draft.LaneDraft.{LaneDraft}
 use Rattle.vh_session.specs.declared.wire.End.{End}
 use Rattle.vh_session.specs.declared.wire.End.TheVariants.{In, Out, Node as AtNode}
 use Rattle.vh_session.specs.declared.wire.Wire.{Wire}
 use Rattle.vh_session.specs.Sound.{EndFits, WireFits}
+use Rattle.vh_session.proofs.Params.{info_more}
 
 end_more : (count more : ℕ) (end : End) → count < more → EndFits count end → EndFits more end
 end_more count more In lt fit = fit
@@ -20,14 +19,9 @@ pub wires_more : (count more : ℕ) (wires : List Wire) → count < more → All
 wires_more count more wires lt all k d kl = (end_more count more (get_or wires k d).from lt (all k d kl).0, end_more count more (get_or wires k d).to lt (all k d kl).1)
 
 there_more : (nodes : List Node) (new : Node) (node id : ℕ) → IsSome (info_in nodes node id) → IsSome (info_in (nodes ++ new ∷ []) node id)
-there_more nodes new node id is = elim (nat_lt node (length nodes)) as (λ t. nat_lt node (length nodes) ≡ t → IsSome (cond t (param_in (node_at nodes node).params id) None) → IsSome (info_in (nodes ++ new ∷ []) node id)) [
-  | true ↦ λ test found.
-      let lt : node < length nodes = ltb-true node (length nodes) test in
-      let long = length-append nodes (new ∷ []) in
-      let within : node < length (nodes ++ new ∷ []) = omega (arith, lt, long) in
-      let same : node_at (nodes ++ new ∷ []) node ≡ node_at nodes node = get_or_append_left nodes (new ∷ []) no_node node lt in
-      subst (λ t. IsSome (cond t (param_in (node_at (nodes ++ new ∷ []) node).params id) None)) (sym (lt-ltb node (length (nodes ++ new ∷ [])) within)) (subst (λ (n : Node). IsSome (param_in n.params id)) (sym same) found)
-  | false ↦ λ test found. absurd (true≢false (sym found))
+there_more nodes new node id is = elim (info_in nodes node id) as (λ found. info_in nodes node id ≡ found → IsSome found → IsSome (info_in (nodes ++ new ∷ []) node id)) [
+  | None ↦ λ e is. absurd (true≢false (sym is))
+  | Some param ↦ λ e is. ap is_some (info_more nodes new node id param e)
 ] refl is
 
 pub lanes_more : (nodes : List Node) (new : Node) (lanes : List LaneDraft) → All (λ lane. IsSome (info_in nodes lane.node lane.id)) lanes → All (λ lane. IsSome (info_in (nodes ++ new ∷ []) lane.node lane.id)) lanes

@@ -6,7 +6,7 @@ use Rattle.vh_params.specs.Nodes.{Node}
 use Rattle.vh_session.specs.declared.wire.Wire.{Wire}
 use Rattle.vh_session.specs.Entry.{Draft, LaneText, ScriptWord, no_draft}
 use Rattle.vh_session.specs.Rules.{is_within}
-use Rattle.vh_session.specs.Lines.{one, is_bits, has_aux}
+use Rattle.vh_session.specs.Lines.{one, is_bits, is_any, has_aux}
 use Rattle.vh_session.specs.Keeps.{EachBehind, AreSizes, AreNodes, IsFile, can_set, IsWireBehind, IsLaneBehind, AreScripts, HasClass, buses_of, word_count}
 
 pub record Settings (frames channels bits : Option ℕ) (pattern : List ℕ) : Type 0 where
@@ -26,7 +26,7 @@ pub record Presets (count : ℕ) (presets : List (Option (List ℕ))) : Type 0 w
 
 -- the first values (id, value) of a node
 abbrev pub NodeFirsts : List Node → ℕ → List (ℕ × ℕ) → Type 0
-NodeFirsts nodes node firsts = All (λ first. (can_set nodes node first.0 ≡ true) × (is_within 0 one first.1 ≡ true)) firsts
+NodeFirsts nodes node firsts = All (λ first. (can_set nodes node first.0 ≡ true) × (is_any first.0 ≡ true) × (is_within 0 one first.1 ≡ true)) firsts
 
 pub record Firsts (nodes : List Node) (firsts : List (List (ℕ × ℕ))) : Type 0 where
   pub as_many : length firsts ≡ length nodes

@@ -85,7 +85,7 @@ keeps_param known draft line name id value legal = let K = Keeps known draft lin
     gives_given K (number_within 0 one value) (λ first. unless (has_first draft.firsts node param.id) Repeated (Ok (ParamLine node param.id first))) (λ first is.
     gives_unless K (has_first draft.firsts node param.id) Repeated (Ok (ParamLine node param.id first)) (λ new.
     let found = param_given draft.nodes node id param param_is in
-    gives_ok K (ParamLine node param.id first) (param_added known draft line node param.id first legal (ap is_settable found.0 ∙ not_from_false (is_read_only param) found.1) (that_given (is_within 0 one) value first is))))))
+    gives_ok K (ParamLine node param.id first) (param_added known draft line node param.id first legal (ap is_settable found.0 ∙ not_from_false (is_read_only param) found.1) found.2 (that_given (is_within 0 one) value first is))))))
 
 -- where a wire of so many words ends
 ends_into : (count : ℕ) (aux : List Bool) (to : End) (further : Option (List ℕ)) → Ends count false to → lacks_bus aux to further ≡ false → (Ends count (is_some further) to) × (is_some further ≡ true → has_aux aux to ≡ true)
@@ -141,6 +141,7 @@ keeps_lane known draft line name id grain_text sample_text value_text legal = le
     let within = that_given (is_within 0 one) value_text value value_is in
     gives_ok K (LaneLine node param.id grain sample value) (lane_added known draft line node param.id grain sample value legal (leb-false 256 (length draft.lanes) few) (record {
       param = ap is_automated found.0 ∙ and_from (not (is_read_only param)) (can_automate param) (not_from_false (is_read_only param) found.1) (not-false (can_automate param) parts.0);
+      id = found.2;
       new = parts.1;
       grain = that_given (is_within 0 24) grain_text grain grain_is;
       breaks = one_break sample value within;

@@ -1,14 +1,11 @@
 -- What a node more keeps.
-use Rattle.std.proofs.Common.{◌≡◌, ◌∙◌, ℕ, zero, suc, ◌+◌, ◌<◌, Bool, true, false, cond, List, [], ◌∷◌, ◌++◌, length, get_or, refl, sym, ap, subst, arith, Some, None, Option, nat_lt, true≢false}
-use Rattle.std.specs.Prelude.{⊤, IfSome}
-use Rattle.std.proofs.lemmas.List.{length-append, get_or_append_left, map-append}
+use Rattle.std.proofs.Common.{◌≡◌, ◌∙◌, ℕ, zero, suc, ◌+◌, ◌<◌, Bool, true, false, List, [], ◌∷◌, ◌++◌, length, get_or, refl, sym, ap, subst, arith, Some, None, Option, true≢false}
+use Rattle.std.specs.Prelude.{IfSome}
+use Rattle.std.proofs.lemmas.List.{length-append, map-append}
 use Rattle.std.proofs.lemmas.List.Elements.{All-push}
-use Rattle.std.proofs.lemmas.Bool.{ltb-true, lt-ltb}
 use Rattle.vh_params.specs.declared.class.ClassInfo.{ClassInfo}
-use Rattle.vh_params.specs.declared.param.ParamInfo.{ParamInfo}
 use Rattle.vh_params.specs.Names.{is_name}
-use Rattle.vh_params.specs.Nodes.{Node, node_at, no_node, info_in}
-use Rattle.vh_params.specs.Params.{param_in}
+use Rattle.vh_params.specs.Nodes.{Node, info_in}
 use Rattle.vh_params.specs.Short.{label_text}
 use Rattle.vh_session.specs.declared.wire.Wire.{Wire}
 use Rattle.vh_session.specs.declared.wire.End.{End}
@@ -19,21 +16,7 @@ use Rattle.vh_session.specs.Lines.{has_aux}
 use Rattle.vh_session.specs.Keeps.{IsNodeBehind, IsFile, IsWord, is_settable, can_set, is_automated, has_automation, Begins, Ends, IsWireBehind, IsLaneBehind, IsScriptWord, HasClass, buses_of, has_bus}
 use Rattle.vh_session.proofs.Behind.{behind_more, behind_weaker}
 use Rattle.vh_session.proofs.Legal.{IsLegal, NodeFirsts}
-
-abbrev IsNone : Option ParamInfo → Type 0
-IsNone None = ⊤
-IsNone (Some param) = ⊥
-
-info_more : (nodes : List Node) (new : Node) (node id : ℕ) (param : ParamInfo) → info_in nodes node id ≡ Some param → info_in (nodes ++ new ∷ []) node id ≡ Some param
-info_more nodes new node id param is = elim (nat_lt node (length nodes)) as (λ t. nat_lt node (length nodes) ≡ t → cond t (param_in (node_at nodes node).params id) None ≡ Some param → info_in (nodes ++ new ∷ []) node id ≡ Some param) [
-  | true ↦ λ test found.
-      let lt : node < length nodes = ltb-true node (length nodes) test in
-      let long = length-append nodes (new ∷ []) in
-      let within : node < length (nodes ++ new ∷ []) = omega (arith, lt, long) in
-      let same : node_at (nodes ++ new ∷ []) node ≡ node_at nodes node = get_or_append_left nodes (new ∷ []) no_node node lt in
-      ap (λ t. cond t (param_in (node_at (nodes ++ new ∷ []) node).params id) None) (lt-ltb node (length (nodes ++ new ∷ [])) within) ∙ ap (λ (n : Node). param_in n.params id) same ∙ found
-  | false ↦ λ test found. absurd (subst IsNone found tt)
-] refl is
+use Rattle.vh_session.proofs.Params.{info_more}
 
 set_more : (nodes : List Node) (new : Node) (node id : ℕ) → can_set nodes node id ≡ true → can_set (nodes ++ new ∷ []) node id ≡ true
 set_more nodes new node id can = elim (info_in nodes node id) as (λ found. info_in nodes node id ≡ found → is_settable found ≡ true → can_set (nodes ++ new ∷ []) node id ≡ true) [
@@ -61,7 +44,7 @@ wire_more : (count more : ℕ) → count < more → (before : List Wire) (wire :
 wire_more count more lt before wire stands = record { from = begins_more count more wire.from lt stands.from; to = ends_more count more wire.aux wire.to lt stands.to; new = stands.new }
 
 lane_more : (nodes : List Node) (new : Node) (before : List LaneText) (lane : LaneText) → IsLaneBehind nodes before lane → IsLaneBehind (nodes ++ new ∷ []) before lane
-lane_more nodes new before lane stands = record { param = automate_more nodes new lane.node lane.id stands.param; new = stands.new; grain = stands.grain; breaks = stands.breaks; samples = stands.samples }
+lane_more nodes new before lane stands = record { param = automate_more nodes new lane.node lane.id stands.param; id = stands.id; new = stands.new; grain = stands.grain; breaks = stands.breaks; samples = stands.samples }
 
 word_more : (count more : ℕ) (word : ScriptWord) → count < more → IsScriptWord count word → IsScriptWord more word
 word_more count more (BeginWord node id) lt fit = (let f = fit.0 in omega (arith, lt, f), fit.1)
@@ -108,7 +91,7 @@ node_added known draft line name class legal few named new word found =
       record { as_many = many_of draft.presets None count nodes legal.2.as_many long; files = All-push P draft.presets None legal.2.files tt },
       record {
         as_many = many_of draft.firsts [] count nodes legal.3.as_many long;
-        fit = λ n. subst (λ fs. NodeFirsts nodes n fs) (sym (firsts_more draft.firsts n)) (λ k d lt. (set_more draft.nodes node n (get_or (get_or draft.firsts n []) k d).0 (legal.3.fit n k d lt).0, (legal.3.fit n k d lt).1));
+        fit = λ n. subst (λ fs. NodeFirsts nodes n fs) (sym (firsts_more draft.firsts n)) (λ k d lt. (set_more draft.nodes node n (get_or (get_or draft.firsts n []) k d).0 (legal.3.fit n k d lt).0, (legal.3.fit n k d lt).1, (legal.3.fit n k d lt).2));
       },
       record {
         few = legal.4.few;

@@ -28,7 +28,7 @@ presets_named count least [] are = λ k d lt. absurd (omega (arith, lt))
 presets_named count least (preset ∷ presets) are = All-cons (λ (preset : ℕ × Vec ℕ Global). preset.0 < count) preset presets are.1 (presets_named count (preset.0 + 1) presets are.3)
 
 -- a parameter that has such a property is of a node that is there
-node_there : (P : Option ParamInfo → Bool) (nodes : List Node) (node id : ℕ) → P None ≡ false → P (info_in nodes node id) ≡ true → node < length nodes
+pub node_there : (P : Option ParamInfo → Bool) (nodes : List Node) (node id : ℕ) → P None ≡ false → P (info_in nodes node id) ≡ true → node < length nodes
 node_there P nodes node id none is = elim (nat_lt node (length nodes)) as (λ t. nat_lt node (length nodes) ≡ t → P (cond t (param_in (node_at nodes node).params id) None) ≡ true → node < length nodes) [
   | true ↦ λ test found. ltb-true node (length nodes) test
   | false ↦ λ test found. absurd (true≢false (sym found ∙ none))

@@ -72,6 +72,7 @@ is_earlier a b = nat_lt a.0 b.0 || ((a.0 == b.0) && nat_lt a.1 b.1)
 pub record IsFirstBehind (nodes : List Node) (before : List (ℕ × ℕ × ℕ)) (first : ℕ × ℕ × ℕ) : Type 0 where
   pub rising : All (λ other. is_earlier other first ≡ true) before
   pub settable : can_set nodes first.0 first.1 ≡ true
+  pub id : is_any first.1 ≡ true
   pub value : is_within 0 one first.2 ≡ true
 
 abbrev pub Begins : ℕ → End → Type 0
@@ -94,6 +95,7 @@ pub record IsWireBehind (count : ℕ) (before : List Wire) (wire : Wire) : Type 
 -- a lane on a parameter of its own
 pub record IsLaneBehind (nodes : List Node) (before : List LaneText) (lane : LaneText) : Type 0 where
   pub param : has_automation nodes lane.node lane.id ≡ true
+  pub id : is_any lane.id ≡ true
   pub new : has_lane before lane.node lane.id ≡ false
   pub grain : is_within 0 24 lane.grain ≡ true
   pub breaks : AreBreaks lane.breaks

@@ -15,3 +15,4 @@ pub mod Keeps
 pub mod Props
 pub mod Parts
 pub mod Names
+pub mod Laws

@@ -18,6 +18,25 @@ pub(crate) struct Mark {
     pub(crate) firsts: Vec<(u32, u32)>,
 }
 
+impl Mark {
+    ghost use Rattle.std.specs.Prelude.{[], None};
+
+    /// A node at this line, before any line on it.
+    fn new(alloc: Global, line: u32, aux: bool) -> Mark
+        ensures line { result.line ≡ line }
+        ensures aux { result.aux ≡ aux }
+        ensures preset { result.preset ≡ None }
+        ensures firsts { result.firsts.items ≡ [] }
+    {
+        Mark {
+            line,
+            aux,
+            preset: None,
+            firsts: Vec::new(alloc),
+        }
+    }
+}
+
 /// A lane with its breakpoints (sample, value) so far.
 #[derive(Drop)]
 pub(crate) struct LaneDraft {
@@ -30,8 +49,29 @@ pub(crate) struct LaneDraft {
 }
 
 impl LaneDraft {
+    ghost use Rattle.std.specs.Prelude.{[], ◌∷◌, IfOk};
     ghost use Rattle.vh_session.specs.Entry.{with_break};
     ghost use Rattle.vh_session.specs.View.{lane_text};
+
+    /// A lane with its first breakpoint.
+    fn new(
+        alloc: Global,
+        node: u32,
+        id: u32,
+        grain: u32,
+        first: (u32, u32),
+    ) -> Result<LaneDraft, AllocError>
+        requires coarse { grain ≤ 24 }
+        requires within { first.1 ≤ 2 ^ 24 }
+        ensures { IfOk result (λ lane. lane_text lane ≡ record { node = node; id = id; grain = grain; breaks = first ∷ [] }) }
+    {
+        Ok(LaneDraft {
+            node,
+            id,
+            grain,
+            breaks: Vec::from_slice(alloc, &[first])?,
+        })
+    }
 
     /// Adds a breakpoint behind the last one.
     fn push(&mut self, sample: u32, value: u32) -> Result<(), AllocError>
@@ -106,12 +146,7 @@ impl Draft {
             Entry::Bits(bits) => self.bits = Some(bits),
             Entry::Pattern(sizes) => self.pattern.extend_from_slice(sizes.as_slice())?,
             Entry::Node { name, class } => {
-                self.marks.push(Mark {
-                    line,
-                    aux: class.aux,
-                    preset: None,
-                    firsts: Vec::new(alloc),
-                })?;
+                self.marks.push(Mark::new(alloc, line, class.aux))?;
                 self.nodes.add(alloc, Label::new(name), class)?;
             }
             Entry::Preset { node, file } => {
@@ -127,12 +162,9 @@ impl Draft {
                 grain,
                 sample,
                 value,
-            } => self.lanes.push(LaneDraft {
-                node,
-                id,
-                grain,
-                breaks: Vec::from_slice(alloc, &[(sample, value)])?,
-            })?,
+            } => self
+                .lanes
+                .push(LaneDraft::new(alloc, node, id, grain, (sample, value))?)?,
             Entry::Point { sample, value } => {
                 if let Some(lane) = self.lanes.last_mut() {
                     lane.push(sample, value)?;

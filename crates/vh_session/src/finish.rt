@@ -4,7 +4,7 @@ ghost use Rattle.std.specs.Prelude.{◌≡◌, ◌<◌, ◌≤◌, ℕ, List, le
 ghost use Rattle.vh_session.specs.Content.{node_wires, between_nodes, first_of, value_in, firsts_from, presets_from, content_in};
 ghost use Rattle.vh_session.specs.Keeps.{IsSession};
 ghost use Rattle.vh_session.specs.Names.{content_of};
-ghost use Rattle.vh_session.specs.Parts.{laned, preset_text};
+ghost use Rattle.vh_session.specs.Parts.{HasSteps, laned, preset_text};
 ghost use Rattle.vh_params.specs.Nodes.{nodes_of, info_in};
 ghost use Rattle.std.specs.List.{filter_map};
 ghost use Rattle.vh_session.specs.Sound.{WireFits, IsSound};
@@ -81,19 +81,29 @@ impl Draft {
     }
 }
 
-/// The lanes of drafts, with the steps of their parameters.
+/// The lane of a draft, with the steps of its parameter.
+fn lane(alloc: Global, nodes: &NodeTable, draft: &LaneDraft) -> Result<Lane, AllocError>
+    requires { IsSome (info_in (nodes_of nodes.now) draft.now.node draft.now.id) }
+    ensures lane { IfOk result (λ lane. laned (draft.now.node, draft.now.id, lane) ≡ lane_text draft.now) }
+    ensures steps { IfOk result (λ lane. HasSteps nodes.now (draft.now.node, draft.now.id, lane)) }
+{
+    let param = nodes.info(draft.node, draft.id).unwrap();
+    Lane::new(alloc, param.steps, draft.grain, &draft.breaks)
+}
+
+/// The lanes of drafts.
 fn lanes(
     alloc: Global,
     nodes: &NodeTable,
     drafts: &[LaneDraft],
 ) -> Result<Vec<(u32, u32, Lane)>, AllocError>
     requires { All (λ lane. IsSome (info_in (nodes_of nodes.now) lane.node lane.id)) drafts.now }
-    ensures { IfOk result (λ lanes. map laned lanes.items ≡ map lane_text drafts.now) }
+    ensures lanes { IfOk result (λ lanes. map laned lanes.items ≡ map lane_text drafts.now) }
+    ensures steps { IfOk result (λ lanes. All (HasSteps nodes.now) lanes.items) }
 {
     let mut lanes = Vec::new(alloc);
     for draft in drafts {
-        let param = nodes.info(draft.node, draft.id).unwrap();
-        let lane = Lane::new(alloc, param.steps, draft.grain, &draft.breaks)?;
+        let lane = lane(alloc, nodes, draft)?;
         lanes.push((draft.node, draft.id, lane))?;
     }
     Ok(lanes)

@@ -6,6 +6,7 @@ mod draft;
 mod entry;
 mod fault;
 mod finish;
+pub mod laws;
 mod lines;
 mod numbers;
 mod print;

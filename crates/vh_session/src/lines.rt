@@ -18,10 +18,8 @@ use crate::rules::{
     the_node,
 };
 use crate::wire::{End, Wire};
+use vh_num::ONE;
 use vh_params::{Classes, Command, Word, Words, is_name};
-
-/// The normalised value 1.0.
-const ONE: u32 = 16_777_216;
 
 /// The most frames of a session.
 const MOST_FRAMES: u32 = 16_777_216;

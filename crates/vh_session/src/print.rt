@@ -41,6 +41,15 @@ impl Text {
         self.bytes.extend_from_slice(word)
     }
 
+    /// Begins a line with this word and the name of a node.
+    fn begin_at(&mut self, word: &[u8], nodes: &NodeTable, node: u32) -> Result<(), AllocError>
+        requires { node < length (nodes_of nodes.now) }
+        ensures { OnOk result (self.new.bytes.items ≡ self.old.bytes.items ++ word.now ++ 32 ∷ (node_at (nodes_of nodes.now) node).name) }
+    {
+        self.begin(word)?;
+        self.word(nodes.name(node).text())
+    }
+
     /// A number as a further word.
     fn number(&mut self, n: u32) -> Result<(), AllocError>
         ensures { OnOk result (self.new.bytes.items ≡ self.old.bytes.items ++ 32 ∷ decimal n) }
@@ -62,8 +71,7 @@ impl Text {
         requires { first.0 < length (nodes_of nodes.now) }
         ensures { OnOk result (self.new.bytes.items ≡ self.old.bytes.items ++ line_text (param_words (nodes_of nodes.now) first)) }
     {
-        self.begin(b"param")?;
-        self.word(nodes.name(first.0).text())?;
+        self.begin_at(b"param", nodes, first.0)?;
         self.number(first.1)?;
         self.number(first.2)?;
         self.end()
@@ -156,8 +164,7 @@ impl Text {
         requires { node < length (nodes_of nodes.now) }
         ensures { OnOk result (self.new.bytes.items ≡ self.old.bytes.items ++ line_text (node_words (node_at (nodes_of nodes.now) node))) }
     {
-        self.begin(b"node")?;
-        self.word(nodes.name(node).text())?;
+        self.begin_at(b"node", nodes, node)?;
         self.word(nodes.class_name(node).text())?;
         self.end()
     }
@@ -167,8 +174,7 @@ impl Text {
         requires { node < length (nodes_of nodes.now) }
         ensures { OnOk result (self.new.bytes.items ≡ self.old.bytes.items ++ line_text (preset_words (nodes_of nodes.now) (node, file.now))) }
     {
-        self.begin(b"preset")?;
-        self.word(nodes.name(node).text())?;
+        self.begin_at(b"preset", nodes, node)?;
         self.word(file)?;
         self.end()
     }
@@ -216,37 +222,31 @@ impl Text {
     {
         match *word {
             Word::Edit(Command::Begin { node, id }) => {
-                self.begin(b"begin")?;
-                self.word(nodes.name(node).text())?;
+                self.begin_at(b"begin", nodes, node)?;
                 self.number(id)?;
                 self.end()
             }
             Word::Edit(Command::Perform { node, id, value }) => {
-                self.begin(b"perform")?;
-                self.word(nodes.name(node).text())?;
+                self.begin_at(b"perform", nodes, node)?;
                 self.number(id)?;
                 self.number(value)?;
                 self.end()
             }
             Word::Edit(Command::End { node, id }) => {
-                self.begin(b"end")?;
-                self.word(nodes.name(node).text())?;
+                self.begin_at(b"end", nodes, node)?;
                 self.number(id)?;
                 self.end()
             }
             Word::Edit(Command::Tell { node, words }) => {
-                self.begin(b"tell")?;
-                self.word(nodes.name(node).text())?;
+                self.begin_at(b"tell", nodes, node)?;
                 self.last_numbers(words.numbers())
             }
             Word::Hold(node) => {
-                self.begin(b"hold")?;
-                self.word(nodes.name(node).text())?;
+                self.begin_at(b"hold", nodes, node)?;
                 self.end()
             }
             Word::Unhold(node) => {
-                self.begin(b"drop")?;
-                self.word(nodes.name(node).text())?;
+                self.begin_at(b"drop", nodes, node)?;
                 self.end()
             }
             Word::Wait(block) => {
@@ -353,9 +353,10 @@ impl Session {
     /// Its canonical text: no comments, single spaces, no leading zeros; the settings, then the nodes, presets, first
     /// values, wires, lanes and scripts in the session's order. Read under classes that have its nodes', it is this
     /// session again.
-    #[tactic(auto, using(crate::proofs::PartsNamed::names_nodes))]
+    #[tactic(auto, using(crate::proofs::PartsNamed::names_nodes, crate::proofs::Printed::printed_says))]
     pub fn print(&self, alloc: Global) -> Result<Vec<u8>, AllocError>
         ensures text { IfOk result (λ text. text.items ≡ session_text (content_of self.now)) }
+        ensures reads_back { IfOk result (λ text. (known : List Class) → StandsUnder known (content_of self.now) → SaysSession known text.items (content_of self.now)) }
     {
         let mut text = Text {
             alloc,

@@ -123,7 +123,7 @@ fn is_header(alloc: Global, text: &[u8]) -> Result<bool, AllocError>
 }
 
 /// The most bytes of a session's text.
-pub const SESSION_LIMIT: usize = 33_554_432;
+pub const SESSION_LIMIT: u64 = 33_554_432;
 
 /// A fault of a line.
 fn fault(line: u32, kind: SessionKind) -> Refusal<SessionFault>
@@ -153,7 +153,7 @@ fn read_draft(
     ensures read { IsDraftRead (draft_of (classes_of classes.now) bytes.now) result }
     ensures sound { IfOk result IsSound }
 {
-    if bytes.len() > SESSION_LIMIT {
+    if bytes.len() as u64 > SESSION_LIMIT {
         return Err(fault(0, SessionKind::TooLong));
     }
     let mut lines = Lines::new(bytes);

@@ -1,8 +1,9 @@
 //! A session.
 
+ghost use Rattle.std.specs.Prelude.{All};
 ghost use Rattle.vh_session.specs.Props.{session_prop};
 ghost use Rattle.vh_session.specs.Keeps.{IsSession};
-ghost use Rattle.vh_session.specs.Parts.{content_from};
+ghost use Rattle.vh_session.specs.Parts.{HasSteps, content_from};
 
 use crate::wire::Wire;
 use vh_lane::Lane;
@@ -25,9 +26,10 @@ pub struct Session {
     /// Nodes, ids and normalised first values, by rising node and then id.
     pub firsts: Vec<(u32, u32, u32)>,
     pub wires: Vec<Wire>,
-    /// Nodes, ids and their lanes.
+    /// Nodes, ids and their lanes, each with its parameter's steps.
     pub lanes: Vec<(u32, u32, Lane)>,
     /// By editor.
     pub scripts: Vec<Vec<Word>>,
     ghost keeps: { IsSession (content_from length channels bits pattern.items nodes presets.items firsts.items wires.items lanes.items scripts.items) } by { session_prop (content_from length channels bits pattern.items nodes presets.items firsts.items wires.items lanes.items scripts.items) },
+    ghost stepped: { All (HasSteps nodes) lanes.items },
 }
