@@ -1,0 +1,116 @@
+"""Writes random sessions, the same in each run, and compares what `check` says of each with session_reference."""
+import pathlib
+import random
+import subprocess
+import sys
+import tempfile
+
+from session_reference import BUILT_IN, ONE, Fault, Session, answer
+from tally import Tally
+
+PROGRAM = str(pathlib.Path(__file__).resolve().parent.parent / "vsthost")
+SESSIONS = 600
+NAMES = ["a", "b", "c", "d_4", "e" * 32]
+ODD_WORDS = ["in", "out", "aux", "A", "9a", "_a", "f" * 33, "#", "gain", "-1", "1x", "16777217", "4294967295", "4294967296", "0000000007", "00000000007"]
+HEADERS = [b"vsthost session 1"] * 60 + [b"", b"# a", b"vsthost session 2", b"vsthost session 01", b" vsthost  session 1 "]
+ENDS = [b"\n"] * 200 + [b"\r\n"] * 8 + [b"\n\n", b"\n # a comment \xff\n"] * 4 + [b"\r\r\n"]
+ODD_BYTES = [0, 9, 10, 13, 31, 32, 35, 126, 127, 128, 255]
+PICK = random.Random(2026)
+
+
+def some(most):
+    return PICK.choice(["", "", "0", "000"]) + str(PICK.choice([0, 1, most, PICK.randint(0, most)]))
+
+
+def name():
+    return PICK.choice(NAMES)
+
+
+def numbers(most, least=0):
+    return [some(300) for _ in range(PICK.randint(least, most))]
+
+
+WRITERS = {  # how often, and the words behind the first
+    "length": (1, lambda: [some(ONE)]),
+    "channels": (1, lambda: [PICK.choice("12")]),
+    "bits": (1, lambda: [PICK.choice(["16", "24"])]),
+    "pattern": (1, lambda: numbers(17, 1)),
+    "node": (8, lambda: [name(), PICK.choice(list(BUILT_IN)).decode()]),
+    "preset": (4, lambda: [name(), PICK.choice(["a.vstpreset", "#", "~" * 255, "~" * 256])]),
+    "param": (8, lambda: [name(), some(3), some(ONE)]),
+    "wire": (16, lambda: [PICK.choice(["in", name(), name()]), PICK.choice(["out", name(), name()])] + PICK.choice([[], ["aux"]])),
+    "lane": (6, lambda: [name(), some(3), some(24), some(50), some(ONE)]),
+    "point": (6, lambda: [some(5000), some(ONE)]),
+    "editor": (4, lambda: [some(2)]),
+    "begin": (3, lambda: [name(), some(9)]),
+    "perform": (3, lambda: [name(), some(9), some(2**32 - 1)]),
+    "end": (3, lambda: [name(), some(9)]),
+    "tell": (3, lambda: [name()] + numbers(5)),
+    "hold": (2, lambda: [name()]),
+    "drop": (2, lambda: [name()]),
+    "wait": (2, lambda: [some(99)]),
+}
+FREQUENCIES = [often for often, _ in WRITERS.values()]
+
+
+def line():
+    """A line, most often one whose words are right."""
+    first = PICK.choices(list(WRITERS), FREQUENCIES)[0]
+    words = [first] + WRITERS[first][1]()
+    change = PICK.random()
+    if change < 0.02:
+        words.pop()
+    elif change < 0.04:
+        words.append(PICK.choice(ODD_WORDS))
+    elif change < 0.1:
+        words[PICK.randrange(len(words))] = PICK.choice(ODD_WORDS)
+    spaces = PICK.choice([" ", " ", " ", "   "])
+    return (PICK.choice(["", "", " "]) + spaces.join(words) + PICK.choice(["", "", "  "])).encode()
+
+
+def may_stand(session, text, at):
+    try:
+        session.read_line(text, at)
+    except Fault:
+        return False
+    return True
+
+
+def lines():
+    """Lines of which each may stand behind those before it, or most of them."""
+    session = Session()
+    stand = [b"length %d" % PICK.randrange(99), b"channels 2", b"bits 24", b"pattern 64"]
+    faults = PICK.choice([0, 0, 0.005])
+    for at, text in enumerate(stand):
+        session.read_line(text, at)
+    for _ in range(PICK.choice([0, 5, 20, 60, 200])):
+        text = line()
+        if may_stand(session, text, len(stand)) or PICK.random() < faults:
+            stand.append(text)
+    return stand
+
+
+def text():
+    """A session's text."""
+    stand = [PICK.choice(HEADERS)] + lines()
+    change = PICK.random()
+    if change < 0.1:
+        stand.pop(PICK.randrange(len(stand)))
+    elif change < 0.5:
+        stand.insert(PICK.randrange(1, len(stand) + 1), line())
+    whole = bytearray(b"".join(text + PICK.choice(ENDS) for text in stand))
+    if PICK.random() < 0.1:
+        whole[PICK.randrange(len(whole))] = PICK.choice(ODD_BYTES)
+    if PICK.random() < 0.3:
+        whole.pop()
+    return bytes(whole)
+
+
+TALLY = Tally()
+with tempfile.TemporaryDirectory() as folder:
+    for count in range(SESSIONS):
+        written = text()
+        (pathlib.Path(folder) / "s").write_bytes(written)
+        done = subprocess.run([PROGRAM, "check", "s"], cwd=folder, stdin=subprocess.DEVNULL, capture_output=True)
+        TALLY.expect(f"random session {count}", (done.returncode, done.stdout.decode()), answer(written))
+sys.exit(TALLY.close("random sessions"))
