@@ -1,7 +1,7 @@
 use Rattle.std.proofs.Common.{◌≡◌, ℕ, zero, suc, ◌+◌, ◌-◌, ◌*◌, ◌%◌, ◌<◌, ◌≤◌, Bool, true, false, ltb, eqb, List, [], ◌∷◌, ◌++◌, length, take, drop, map, replicate, get_or, ℤ, pos, Option, Some, None, Result, Ok, Err, ◌⊎◌, inl, inr, ⊎_elim, refl, sym, ap, subst, ◌∙◌, arith, rules}
 use Rattle.std.specs.Option.{IsSome, is_some}
 use Rattle.std.specs.Result.{OnOk, OnErr, MatchResult}
-use Rattle.std.proofs.lemmas.Bool.{false≢true}
+use Rattle.std.proofs.lemmas.Bool.{false≢true, lt-ltb}
 use Rattle.std.proofs.lemmas.List.{length-append, length-map, length-take, length-drop, append-nil, take_at, drop_at, drop-drop, take_all, drop_all, take-take, length-take-le, places, get_or_append_left, get_or-append_right, get_or-take, same_lists, get_or_default, get_or-map}
 use Rattle.std.proofs.Math.Seq.{take-add}
 use Rattle.vh_files.specs.Causes.{Rose}
@@ -22,7 +22,6 @@ use Rattle.std.proofs.lemmas.List.FromFn.{length-map-range_with_len, get_or-map-
 use Rattle.vh_host.specs.Stops.{gained, HasPart, HasBlocks}
 use Rattle.std.proofs.lemmas.Slice.{drop-put_mid}
 use borrow.Rule.Slice.PartMut.{put_mid, post_of}
-use Rattle.vh_host.proofs.Texts.{lt_true}
 
 -- a file that isn't missing has bytes that are told, or the store doesn't tell it
 pub read_as : (complete : Bool) (held : Held) (name : List ℕ) (Holds : List ℕ → Type 0) → (Lacks complete held name → ⊥) → ((bytes : List ℕ) → told held name ≡ Some bytes → Holds bytes) → ReadAs complete held name Holds
@@ -41,7 +40,7 @@ not_lacking complete held name there lacks = false≢true (sym (ap is_some lacks
 
 pub too_long : (bytes : List ℕ) → session_limit < length bytes → session_in bytes ≡ Err (fault_at 0 TooLong)
 unfolding session_in
-too_long bytes over = let t : ltb session_limit (length bytes) ≡ true = lt_true _ _ over in rw t refl
+too_long bytes over = let t : ltb session_limit (length bytes) ≡ true = lt-ltb _ _ over in rw t refl
 
 -- the frames of samples under the gain
 pub gained_is : (xs : List ℤ) → frames_of 1 (map (gain_of unity) xs) ≡ gained xs
@@ -83,10 +82,6 @@ OnOk-then (Err e) P Q f h = h
 pub OnErr-then : {T E : Type 0} (result : Result T E) (P Q : Type 0) → (P → Q) → OnErr result P → OnErr result Q
 OnErr-then (Ok x) P Q f h = h
 OnErr-then (Err e) P Q f h = f h
-
-pub has_not_lacking : (complete : Bool) (held : Held) (name text : List ℕ) → HasNow complete (told held name) text → Lacks complete held name → ⊥
-has_not_lacking complete held name text has lacks =
-    ⊎_elim (λ e. let contra : Some text ≡ None = sym e ∙ lacks.1 in cc) (λ gone. false≢true (sym gone.0 ∙ lacks.0)) has
 
 -- ---- the text of a rendering, by places
 body : List ℤ → List ℕ

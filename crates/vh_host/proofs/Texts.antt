@@ -1,4 +1,4 @@
-use Rattle.std.proofs.Common.{◌≡◌, ◌≢◌, ℕ, zero, suc, ◌+◌, ◌-◌, ◌*◌, ◌<◌, ◌≤◌, Bool, true, false, ◌&&◌, cond, eqb, leb, ltb, List, [], ◌∷◌, ◌++◌, length, take, drop, get_or, Some, None, refl, sym, ap, ◌∙◌, append_assoc, arith}
+use Rattle.std.proofs.Common.{◌≡◌, ◌≢◌, ℕ, zero, suc, ◌+◌, ◌-◌, ◌*◌, ◌<◌, ◌≤◌, Bool, true, false, ◌&&◌, cond, eqb, leb, List, [], ◌∷◌, ◌++◌, length, take, drop, get_or, Some, None, refl, sym, ap, ◌∙◌, append_assoc, arith}
 use Rattle.std.proofs.lemmas.Bool.{false_from_ne_true}
 use Rattle.std.proofs.lemmas.Bool.Decides.{Decides-eqb, nat_tests}
 use Rattle.std.proofs.lemmas.List.{length-append, take-append-drop, drop-drop, take_at, drop_at, at_drop_more}
@@ -68,14 +68,6 @@ between_none front back line h =
     let t = false_from_ne_true (bytes_eq line (front ++ (middle_of front back line ++ back))) (λ e. h ((bytes_eq-Decides line (front ++ (middle_of front back line ++ back))).0 e)) in
     rw t refl
 
-pub between_short : (front back line : List ℕ) → length line < length front + length back → between front back line ≡ None
-unfolding middle_of
-between_short front back line short = between_none front back line (λ e.
-    let outer = length-append front (middle_of front back line ++ back) in
-    let inner = length-append (middle_of front back line) back in
-    let whole = ap length e in
-    omega (arith, outer, inner, whole))
-
 pub between_front : (front back line : List ℕ) → take (length front) line ≢ front → between front back line ≡ None
 unfolding middle_of
 between_front front back line other = between_none front back line (λ e.
@@ -113,9 +105,3 @@ over_most most text i before within rest over =
     let past : most < number_after 0 text = omega (arith, next, grows, rest) in
     let t : leb (number_after 0 text) most ≡ false = grind (arith, nat_tests) in
     rw t (no_matter (list_all is_digit text) (number_after 0 text))
-
-pub not_short : (a b : ℕ) → b ≤ a → ltb a b ≡ false
-not_short a b h = grind (arith, nat_tests)
-
-pub lt_true : (a b : ℕ) → a < b → ltb a b ≡ true
-lt_true a b h = grind (arith, nat_tests)

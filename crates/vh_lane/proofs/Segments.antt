@@ -98,13 +98,6 @@ reached_next breaks passed s are = record {
   after = λ i d le within. let ahead = are.after i d le within in omega (arith, ahead);
 }
 
-pub reached_here : (breaks : List (ℕ × ℕ)) (passed s : ℕ) → ArePassed breaks passed s → AreReached breaks passed s
-reached_here breaks passed s are = record {
-  most = are.most;
-  before = are.before;
-  after = λ i d le within. let ahead = are.after i d le within in omega (arith, ahead);
-}
-
 pub no_fall : (breaks : List (ℕ × ℕ)) → AreBreaks breaks → IsNonDecreasingBy (λ (p : ℕ × ℕ). p.0) breaks
 no_fall breaks rising i j d le within =
     elim (nat_lt i j) as (λ t. nat_lt i j ≡ t → (get_or breaks i d).0 ≤ (get_or breaks j d).0) [

@@ -1,7 +1,7 @@
 -- Points that are sent one by one.
 use Rattle.std.proofs.Common.{◌≡◌, ◌≢◌, ℕ, zero, suc, ◌+◌, ◌<◌, ◌≤◌, true, false, cond, nat_eq, List, [], ◌∷◌, ◌++◌, length, get_or, set, refl, sym, ap, subst, ◌-◌, ◌∙◌, arith}
 use Rattle.std.proofs.lemmas.Bool.{eqb-true, ne_eqb, eq-eqb}
-use Rattle.std.proofs.lemmas.List.{get_or-set_same, set-get_or, length-append}
+use Rattle.std.proofs.lemmas.List.{get_or-set_same, length-append}
 use Rattle.std.proofs.Math.Seq.{get_or-append_seam}
 use Rattle.vh_points.specs.Queues.{Queue, queue_at, no_queue, with_point, MayFollow}
 use Rattle.vh_lane.specs.Values.{ArePassed, AreReached}
@@ -43,10 +43,6 @@ pub with_points_more : (queues : List Queue) (q : ℕ) (points : List (ℕ × �
 with_points_more queues q points point within =
     ap (λ (queue : Queue). set (with_points queues q points) q (record { id = queue.id; points = queue.points ++ point ∷ [] })) (queue_with_points queues q points within)
     ∙ set_twice queues q (record { id = (queue_at queues q).id; points = points }) (record { id = (queue_at queues q).id; points = points ++ point ∷ [] })
-
-pub with_no_points : (queues : List Queue) (q : ℕ) → (queue_at queues q).points ≡ [] → queues ≡ with_points queues q []
-with_no_points queues q none =
-    sym (set-get_or queues q no_queue) ∙ ap (λ (points : List (ℕ × ℕ)). set queues q (record { id = (queue_at queues q).id; points = points })) none
 
 few_changes : (value : ℕ → ℕ) (from last n : ℕ) → length (changes_of value from last n) ≤ n
 few_changes value from last zero = omega arith

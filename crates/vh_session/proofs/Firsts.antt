@@ -1,8 +1,8 @@
 -- First values, node by node.
-use Rattle.std.proofs.Common.{◌≡◌, ◌∙◌, ℕ, suc, ◌+◌, ◌<◌, ◌≤◌, List, [], ◌∷◌, ◌++◌, drop, length, get_or, sym, ap, arith}
+use Rattle.std.proofs.Common.{◌≡◌, ◌∙◌, ℕ, suc, ◌+◌, ◌<◌, List, [], ◌∷◌, ◌++◌, drop, length, get_or, sym, ap, arith}
 use Rattle.std.specs.List.{filter_map}
 use Rattle.std.proofs.Math.Seq.{drop-cons}
-use Rattle.std.proofs.lemmas.List.{append_assoc, append-nil, drop_all}
+use Rattle.std.proofs.lemmas.List.{append_assoc}
 use Rattle.vh_params.specs.Nodes.{Node, node_at, no_node}
 use Rattle.vh_session.specs.Content.{first_of, firsts_from}
 
@@ -21,6 +21,3 @@ one_node nodes firsts i before after all lt fl is now =
     ap (λ xs. xs ++ firsts_from (i + 1) (drop (i + 1) nodes) (drop (i + 1) firsts)) now
     ∙ append_assoc before (filter_map (first_of i (get_or firsts i [])) (node_at nodes i).params) (firsts_from (i + 1) (drop (i + 1) nodes) (drop (i + 1) firsts))
     ∙ ap (λ xs. before ++ xs) (sym (next nodes firsts i lt fl)) ∙ is
-
-pub all_nodes : (nodes : List Node) (firsts : List (List (ℕ × ℕ))) (i : ℕ) (before all : List (ℕ × ℕ × ℕ)) → length nodes ≤ i → before ++ firsts_from i (drop i nodes) (drop i firsts) ≡ all → before ≡ all
-all_nodes nodes firsts i before all le is = sym (append-nil before) ∙ ap (λ ns. before ++ firsts_from i ns (drop i firsts)) (sym (drop_all i nodes le)) ∙ is

@@ -3,7 +3,7 @@ use Rattle.std.proofs.Common.{◌≡◌, ◌∙◌, ℕ, zero, suc, ◌+◌, ◌
 use Rattle.std.specs.Prelude.{nat_le, not, ok_or}
 use Rattle.std.specs.Fmt.{decimal}
 use Rattle.std.specs.Str.{bytes_eq}
-use Rattle.std.proofs.lemmas.Bool.{and_parts, leb-true}
+use Rattle.std.proofs.lemmas.Bool.{and_parts, leb-true, not-true}
 use Rattle.std.proofs.lemmas.List.{append_assoc, length-append}
 use Rattle.vh_params.specs.declared.param.ParamInfo.{ParamInfo}
 use Rattle.vh_params.specs.Nodes.{Node, node_at, info_in}
@@ -52,17 +52,13 @@ param_found P nodes node id none is any =
       | Some param ↦ λ e p. (param, reads ∙ ap (λ o. ok_or o UnknownParam) e, found_id nodes node id param e, p)
     ] refl is
 
-not_true : (b : Bool) → not b ≡ true → b ≡ false
-not_true true is = absurd (true≢false (sym is))
-not_true false is = refl
-
 pub settable_found : (nodes : List Node) (node id : ℕ) → can_set nodes node id ≡ true → is_any id ≡ true → (param : ParamInfo) × (settable_param nodes node (decimal id) ≡ Ok param) × (param.id ≡ id)
 settable_found nodes node id can any =
     let found = param_found is_settable nodes node id refl can any in
-    (found.0, ap (λ r. given r (λ param. unless (is_read_only param) ReadOnlyParam (Ok param))) found.1 ∙ ap (λ t. unless t ReadOnlyParam (Ok found.0)) (not_true (is_read_only found.0) found.3), found.2)
+    (found.0, ap (λ r. given r (λ param. unless (is_read_only param) ReadOnlyParam (Ok param))) found.1 ∙ ap (λ t. unless t ReadOnlyParam (Ok found.0)) (not-true (is_read_only found.0) found.3), found.2)
 
 pub automated_found : (nodes : List Node) (node id : ℕ) → has_automation nodes node id ≡ true → is_any id ≡ true → (param : ParamInfo) × (settable_param nodes node (decimal id) ≡ Ok param) × (param.id ≡ id) × (can_automate param ≡ true)
 automated_found nodes node id can any =
     let found = param_found is_automated nodes node id refl can any in
     let both = and_parts (not (is_read_only found.0)) (can_automate found.0) found.3 in
-    (found.0, ap (λ r. given r (λ param. unless (is_read_only param) ReadOnlyParam (Ok param))) found.1 ∙ ap (λ t. unless t ReadOnlyParam (Ok found.0)) (not_true (is_read_only found.0) both.0), found.2, both.1)
+    (found.0, ap (λ r. given r (λ param. unless (is_read_only param) ReadOnlyParam (Ok param))) found.1 ∙ ap (λ t. unless t ReadOnlyParam (Ok found.0)) (not-true (is_read_only found.0) both.0), found.2, both.1)

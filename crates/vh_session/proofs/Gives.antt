@@ -1,6 +1,6 @@
 -- What holds of each value that rules hand on.
 use Rattle.std.proofs.Common.{◌≡◌, Bool, true, false, refl, sym, ap, subst, Ok, Err, Result, Some, None, Option}
-use Rattle.std.specs.Prelude.{⊤, IfSome, ok_or, if◌then◌else◌}
+use Rattle.std.specs.Prelude.{⊤, IfSome, if◌then◌else◌}
 use Rattle.vh_session.specs.Entry.{Entry}
 use Rattle.vh_session.specs.Rules.{Checked, given, unless}
 use Rattle.vh_session.specs.Lines.{this_line, or_line}
@@ -52,7 +52,3 @@ pub gives_or : (Holds : Entry → Type 0) (first : Checked (Option Entry)) (next
 gives_or Holds (Ok (Some entry)) next gives others = gives_ok Holds entry (gives (Some entry) refl)
 gives_or Holds (Ok None) next gives others = others
 gives_or Holds (Err kind) next gives others = gives_err Holds kind
-
-pub some_of : {A K : Type 0} (option : Option A) (kind : K) (a : A) → ok_or option kind ≡ Ok a → option ≡ Some a
-some_of None kind a is = absurd (no_value a kind is)
-some_of (Some b) kind a is = ap (λ x. Some x) (same_value b a is)

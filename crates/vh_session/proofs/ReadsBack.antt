@@ -4,7 +4,7 @@ use Rattle.std.specs.Prelude.{All, codes, not}
 use Rattle.std.specs.Fmt.{decimal}
 use Rattle.std.specs.List.{filter_map}
 use Rattle.std.specs.Str.{bytes_eq}
-use Rattle.std.proofs.lemmas.Bool.{lt-ltb, not_from_true}
+use Rattle.std.proofs.lemmas.Bool.{le-ltb, lt-ltb, not_from_true}
 use Rattle.std.proofs.lemmas.List.{append-nil, length-append, length-map, length-take}
 use Rattle.std.proofs.lemmas.List.Elements.{All-cons}
 use Rattle.std.proofs.lemmas.Slice.Eq.{bytes_eq-Decides}
@@ -35,7 +35,7 @@ use Rattle.vh_session.proofs.LanesBack.{lanes_state, lanes_go}
 use Rattle.vh_session.proofs.NodesBack.{no_preset, no_firsts, nodes_state, nodes_go}
 use Rattle.vh_session.proofs.Numerals.{number_word}
 use Rattle.vh_session.proofs.PresetsBack.{ArePut, presets_go}
-use Rattle.vh_session.proofs.Says.{kind_says, length_says, channels_says, bits_says, pattern_says, within_small, bits_small, then_, counts, passes_, not_less}
+use Rattle.vh_session.proofs.Says.{kind_says, length_says, channels_says, bits_says, pattern_says, within_small, bits_small, then_, counts, passes_}
 use Rattle.vh_session.proofs.ScriptsBack.{scripts_state, scripts_go}
 use Rattle.vh_session.proofs.SectionSizes.{within_most, wire_size, lane_size, lanes_size, scripts_size, short_name}
 use Rattle.vh_session.proofs.Sizes.{line_size, mapped_size, name_size, number_size, value_size, numbers_size, few_presets, few_firsts}
@@ -273,7 +273,7 @@ module _ (known : List ClassInfo) (content : Content) (keeps : IsSession content
       let some = keeps.pattern.0 in
       let complete : is_complete after ≡ true = lt-ltb 0 (length content.pattern) (omega (arith, some)) in
       let says : draft_of known text ≡ Ok after =
-      passes_ (nat_lt session_limit (length text)) (fault 0 TooLong) (given (text_from known (lines_of text)) next) (not_less session_limit (length text) text_size)
+      passes_ (nat_lt session_limit (length text)) (fault 0 TooLong) (given (text_from known (lines_of text)) next) (le-ltb session_limit (length text) text_size)
       ∙ ap (λ ls. given (text_from known ls) next) lines
       ∙ then_ next after read
       ∙ passes_ (not (is_complete after)) (fault (length (lines_of text) + 1) NoLine) (Ok after) (not_from_true (is_complete after) complete) in

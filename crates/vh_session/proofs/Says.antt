@@ -3,7 +3,7 @@ use Rattle.std.proofs.Common.{◌≡◌, ◌∙◌, ℕ, ◌<◌, ◌≤◌, ◌
 use Rattle.std.specs.Prelude.{All, nat_le, ◌||◌, not, ok_or}
 use Rattle.std.specs.Fmt.{decimal}
 use Rattle.std.specs.Option.{is_some}
-use Rattle.std.proofs.lemmas.Bool.{and_parts, leb-true, or_from, not_from_true, false_from_ne_true, ltb-true, or_cases, eqb-true, eq-eqb}
+use Rattle.std.proofs.lemmas.Bool.{and_parts, le-ltb, leb-true, or_from, not_from_true, false_from_ne_true, or_cases, eqb-true, eq-eqb}
 use Rattle.std.proofs.lemmas.List.Elements.{All-tail}
 use Rattle.vh_params.specs.declared.class.ClassInfo.{ClassInfo}
 use Rattle.vh_params.specs.declared.param.ParamInfo.{ParamInfo}
@@ -31,13 +31,10 @@ kind_says said next entry is = ap (λ r. or_line (this_line r) next) is
 pub not_least : (a b : ℕ) → b < a → nat_le a b ≡ false
 not_least a b lt = false_from_ne_true (nat_le a b) (λ test. let le = leb-true a b test in omega (arith, le, lt))
 
-pub not_less : (a b : ℕ) → b ≤ a → nat_lt a b ≡ false
-not_less a b le = false_from_ne_true (nat_lt a b) (λ test. let lt = ltb-true a b test in omega (arith, le, lt))
-
 pub counts : (least most count : ℕ) → least ≤ count → count ≤ most → arity least most count ≡ Ok tt
 counts least most count low high =
-    passes_ (nat_lt count least) Missing (unless (nat_lt most count) Extra (Ok tt)) (not_less count least low)
-    ∙ passes_ (nat_lt most count) Extra (Ok tt) (not_less most count high)
+    passes_ (nat_lt count least) Missing (unless (nat_lt most count) Extra (Ok tt)) (le-ltb count least low)
+    ∙ passes_ (nat_lt most count) Extra (Ok tt) (le-ltb most count high)
 
 pub within_small : (least most n : ℕ) → most < 2 ^ 32 → is_within least most n ≡ true → n < 2 ^ 32
 within_small least most n small within = let le = leb-true n most (and_parts (nat_le least n) (nat_le n most) within).1 in omega (arith, le, small)
@@ -89,7 +86,7 @@ pub preset_says : (draft : Draft) (name file : List ℕ) (node : ℕ) → the_no
 preset_says draft name file node found short new =
     let last : ℕ → Checked Entry = λ node. unless (has_preset draft.presets node) Repeated (Ok (PresetLine node file)) in
     then_ (λ node. unless (nat_lt 255 (length file)) BadName (last node)) node found
-    ∙ passes_ (nat_lt 255 (length file)) BadName (last node) (not_less 255 (length file) short)
+    ∙ passes_ (nat_lt 255 (length file)) BadName (last node) (le-ltb 255 (length file) short)
     ∙ passes_ (has_preset draft.presets node) Repeated (Ok (PresetLine node file)) new
 
 pub param_says : (draft : Draft) (name : List ℕ) (node id value : ℕ) (param : ParamInfo) → the_node draft.nodes name ≡ Ok node → settable_param draft.nodes node (decimal id) ≡ Ok param → param.id ≡ id → is_within 0 one value ≡ true → has_first draft.firsts node id ≡ false → Lines.param_line draft name (decimal id) (decimal value) ≡ Ok (ParamLine node id value)

@@ -1,9 +1,9 @@
 -- Wires that are written are read.
-use Rattle.std.proofs.Common.{◌≡◌, ◌∙◌, ℕ, ◌+◌, ◌<◌, ◌≤◌, Bool, true, false, List, [], ◌∷◌, ◌++◌, map, length, refl, sym, ap, arith, Some, None, Option, Ok, true≢false}
+use Rattle.std.proofs.Common.{◌≡◌, ◌∙◌, ℕ, ◌+◌, ◌<◌, ◌≤◌, Bool, true, false, List, [], ◌∷◌, ◌++◌, map, length, refl, sym, ap, arith, Some, None, Option, Ok}
 use Rattle.std.specs.Prelude.{All, codes, not, nat_le, ◌&&◌, if◌then◌else◌, slice_index}
 use Rattle.std.specs.List.{list_all}
 use Rattle.std.specs.Str.{bytes_eq}
-use Rattle.std.proofs.lemmas.Bool.{and_parts, not_from_true}
+use Rattle.std.proofs.lemmas.Bool.{and_parts, not-true, not_from_true}
 use Rattle.std.proofs.lemmas.List.{append_assoc, append-nil, length-append}
 use Rattle.std.proofs.lemmas.List.Elements.{All-tail}
 use Rattle.vh_params.specs.declared.class.ClassInfo.{ClassInfo}
@@ -26,16 +26,11 @@ use Rattle.vh_session.proofs.Says.{kind_says, wire_says, then_}
 use Rattle.vh_session.proofs.WordsOf.{code_word, name_word, no_words, one_more}
 
 -- a name is neither `in` nor `out`
-
-not_true : (b : Bool) → not b ≡ true → b ≡ false
-not_true true is = absurd (true≢false (sym is))
-not_true false is = refl
-
 own : (text : List ℕ) → is_name text ≡ true → (bytes_eq text (codes "in") ≡ false) × (bytes_eq text (codes "out") ≡ false)
 own text is =
     let back = (and_parts ((nat_le 1 (length text) && nat_le (length text) 32) && (is_lower (slice_index text 0) && list_all is_name_byte text)) (not (bytes_eq text (codes "in")) && not (bytes_eq text (codes "out"))) is).1 in
     let both = and_parts (not (bytes_eq text (codes "in"))) (not (bytes_eq text (codes "out"))) back in
-    (not_true (bytes_eq text (codes "in")) both.0, not_true (bytes_eq text (codes "out")) both.1)
+    (not-true (bytes_eq text (codes "in")) both.0, not-true (bytes_eq text (codes "out")) both.1)
 
 named : (nodes : List Node) (node : ℕ) → EachBehind IsNodeBehind [] nodes → node < length nodes → is_name (name_of nodes node) ≡ true
 named nodes node each lt = behind_all IsNodeBehind (λ n. is_name n.name ≡ true) [] nodes (λ before n stands. stands.named) each node no_node lt
