@@ -13,22 +13,7 @@ use Rattle.vh_session.proofs.Joined.{joined, line_says}
 
 -- a draft whose nodes stand in these lines
 abbrev pub with_lines : List ℕ → Draft → Draft
-with_lines lines draft = record {
-  length = draft.length;
-  channels = draft.channels;
-  bits = draft.bits;
-  pattern = draft.pattern;
-  nodes = draft.nodes;
-  lines = lines;
-  aux = draft.aux;
-  presets = draft.presets;
-  firsts = draft.firsts;
-  wires = draft.wires;
-  lanes = draft.lanes;
-  in_lane = draft.in_lane;
-  scripts = draft.scripts;
-  script_count = draft.script_count;
-}
+with_lines lines draft = record draft { lines = lines }
 
 -- these lines lead from a draft to another, wherever they and the nodes' lines stand
 abbrev pub Goes : List ClassInfo → List (List (List ℕ)) → Draft → Draft → Type 0

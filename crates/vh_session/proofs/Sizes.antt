@@ -1,20 +1,19 @@
 -- How long the canonical text may be.
 use Rattle.std.proofs.Common.{◌≡◌, ℕ, suc, ◌+◌, ◌*◌, ◌<◌, ◌≤◌, ◌^◌, true, List, [], ◌∷◌, map, length, get_or, refl, arith, Some, None}
-use Rattle.std.specs.Prelude.{All, codes, nat_le, ◌&&◌, not, slice_index}
+use Rattle.std.specs.Prelude.{All}
 use Rattle.std.specs.Fmt.{decimal}
-use Rattle.std.specs.List.{filter_map, cons_option, list_all}
+use Rattle.std.specs.List.{filter_map, cons_option}
 use Rattle.std.specs.Option.{option_map}
-use Rattle.std.specs.Str.{bytes_eq}
-use Rattle.std.proofs.lemmas.Bool.{and_parts, leb-true}
 use Rattle.std.proofs.lemmas.Fmt.{length-decimal-le}
 use Rattle.std.proofs.lemmas.List.{length-append}
 use Rattle.std.proofs.lemmas.List.Elements.{All-tail}
-use Rattle.vh_params.specs.Names.{is_name, is_name_byte, is_lower}
+use Rattle.vh_params.specs.Names.{is_name}
 use Rattle.vh_params.specs.declared.param.ParamInfo.{ParamInfo}
 use Rattle.vh_params.specs.Nodes.{Node}
 use Rattle.vh_session.specs.Content.{first_of, value_in, firsts_from}
 use Rattle.vh_session.specs.Text.{further_text, line_text, lines_text}
 use Rattle.vh_session.specs.Keeps.{ArePresets}
+use Rattle.vh_session.proofs.WordsOf.{name_rules}
 
 -- the bytes of words, each with one more
 abbrev pub size : List (List ℕ) → ℕ
@@ -27,19 +26,6 @@ further_size (word ∷ words) = let e = length-append word (further_text words) 
 
 pub line_size : (word : List ℕ) (words : List (List ℕ)) → length (line_text (word ∷ words)) ≡ size (word ∷ words)
 line_size word words = let e = length-append word (further_text words) in let r = further_size words in omega (arith, e, r)
-
--- lines of so many bytes at most
-abbrev pub Short : ℕ → List (List (List ℕ)) → Type 0
-Short most lines = All (λ line. length (line_text line) ≤ most) lines
-
-pub lines_size : (most : ℕ) (lines : List (List (List ℕ))) → Short most lines → length (lines_text lines) ≤ length lines * most
-lines_size most [] all = omega arith
-lines_size most (line ∷ lines) all =
-    let e = length-append (line_text line) (lines_text lines) in
-    let here = all 0 line (omega arith) in
-    let rest = lines_size most lines (All-tail (λ line. length (line_text line) ≤ most) line lines all) in
-    let product : suc (length lines) * most ≡ most + length lines * most = omega arith in
-    omega (arith, e, here, rest, product)
 
 -- lines that are made of a list, so many bytes each
 pub mapped_size : {A : Type 0} (f : A → List (List ℕ)) (most : ℕ) (xs : List A) → ((k : ℕ) (d : A) → k < length xs → length (line_text (f (get_or xs k d))) ≤ most) → length (lines_text (map f xs)) ≤ length xs * most
@@ -54,10 +40,7 @@ mapped_size f most (x ∷ xs) each =
 -- the bytes of names and numbers
 
 pub name_size : (text : List ℕ) → is_name text ≡ true → length text ≤ 32
-name_size text is =
-    let front = (and_parts ((nat_le 1 (length text) && nat_le (length text) 32) && (is_lower (slice_index text 0) && list_all is_name_byte text)) (not (bytes_eq text (codes "in")) && not (bytes_eq text (codes "out"))) is).0 in
-    let parts = and_parts (nat_le 1 (length text) && nat_le (length text) 32) (is_lower (slice_index text 0) && list_all is_name_byte text) front in
-    leb-true (length text) 32 (and_parts (nat_le 1 (length text)) (nat_le (length text) 32) parts.0).1
+name_size text is = (name_rules text is).few
 
 pub number_size : (n : ℕ) → n < 2 ^ 32 → length (decimal n) ≤ 10
 number_size n small = length-decimal-le 10 n (omega arith) (omega (arith, small)) (omega (arith, small))

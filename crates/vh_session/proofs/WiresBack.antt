@@ -1,13 +1,11 @@
 -- Wires that are written are read.
 use Rattle.std.proofs.Common.{◌≡◌, ◌∙◌, ℕ, ◌+◌, ◌<◌, ◌≤◌, Bool, true, false, List, [], ◌∷◌, ◌++◌, map, length, refl, sym, ap, arith, Some, None, Option, Ok}
-use Rattle.std.specs.Prelude.{All, codes, not, nat_le, ◌&&◌, if◌then◌else◌, slice_index}
-use Rattle.std.specs.List.{list_all}
-use Rattle.std.specs.Str.{bytes_eq}
-use Rattle.std.proofs.lemmas.Bool.{and_parts, not-true, not_from_true}
+use Rattle.std.specs.Prelude.{All, codes, if◌then◌else◌}
+use Rattle.std.proofs.lemmas.Bool.{not_from_true}
 use Rattle.std.proofs.lemmas.List.{append_assoc, append-nil, length-append}
 use Rattle.std.proofs.lemmas.List.Elements.{All-tail}
 use Rattle.vh_params.specs.declared.class.ClassInfo.{ClassInfo}
-use Rattle.vh_params.specs.Names.{is_name, is_name_byte, is_lower}
+use Rattle.vh_params.specs.Names.{is_name}
 use Rattle.vh_params.specs.Nodes.{Node, no_node}
 use Rattle.vh_session.specs.declared.wire.End.{End}
 use Rattle.vh_session.specs.declared.wire.End.TheVariants.{In, Out, Node as AtNode}
@@ -23,14 +21,7 @@ use Rattle.vh_session.proofs.Found.{node_found}
 use Rattle.vh_session.proofs.Goes.{Goes, with_lines, goes_none, goes_on_to, goes_line, goes_same}
 use Rattle.vh_session.proofs.NodesBack.{state}
 use Rattle.vh_session.proofs.Says.{kind_says, wire_says, then_}
-use Rattle.vh_session.proofs.WordsOf.{code_word, name_word, no_words, one_more}
-
--- a name is neither `in` nor `out`
-own : (text : List ℕ) → is_name text ≡ true → (bytes_eq text (codes "in") ≡ false) × (bytes_eq text (codes "out") ≡ false)
-own text is =
-    let back = (and_parts ((nat_le 1 (length text) && nat_le (length text) 32) && (is_lower (slice_index text 0) && list_all is_name_byte text)) (not (bytes_eq text (codes "in")) && not (bytes_eq text (codes "out"))) is).1 in
-    let both = and_parts (not (bytes_eq text (codes "in"))) (not (bytes_eq text (codes "out"))) back in
-    (not-true (bytes_eq text (codes "in")) both.0, not-true (bytes_eq text (codes "out")) both.1)
+use Rattle.vh_session.proofs.WordsOf.{code_word, name_rules, name_word, no_words, one_more}
 
 named : (nodes : List Node) (node : ℕ) → EachBehind IsNodeBehind [] nodes → node < length nodes → is_name (name_of nodes node) ≡ true
 named nodes node each lt = behind_all IsNodeBehind (λ n. is_name n.name ≡ true) [] nodes (λ before n stands. stands.named) each node no_node lt
@@ -40,7 +31,7 @@ first_found nodes In each begins = refl
 first_found nodes Out each begins = absurd begins
 first_found nodes (AtNode node) each begins =
     let at : ℕ → Checked End = λ node. Ok (AtNode node) in
-    ap (λ t. if t then Ok In else given (the_node nodes (name_of nodes node)) at) (own (name_of nodes node) (named nodes node each begins)).0
+    ap (λ t. if t then Ok In else given (the_node nodes (name_of nodes node)) at) (name_rules (name_of nodes node) (named nodes node each begins)).not_in
     ∙ then_ at node (node_found nodes node each begins)
 
 last_found : (nodes : List Node) (aux : Bool) (end : End) → EachBehind IsNodeBehind [] nodes → Ends (length nodes) aux end → last_end nodes (end_word nodes end) ≡ Ok end
@@ -48,7 +39,7 @@ last_found nodes aux In each ends = absurd ends
 last_found nodes aux Out each ends = refl
 last_found nodes aux (AtNode node) each ends =
     let at : ℕ → Checked End = λ node. Ok (AtNode node) in
-    ap (λ t. if t then Ok Out else given (the_node nodes (name_of nodes node)) at) (own (name_of nodes node) (named nodes node each ends)).1
+    ap (λ t. if t then Ok Out else given (the_node nodes (name_of nodes node)) at) (name_rules (name_of nodes node) (named nodes node each ends)).not_out
     ∙ then_ at node (node_found nodes node each ends)
 
 begins_word : (nodes : List Node) (end : End) → EachBehind IsNodeBehind [] nodes → Begins (length nodes) end → IsWord (end_word nodes end)

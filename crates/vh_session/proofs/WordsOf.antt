@@ -1,9 +1,9 @@
 -- Which texts are words.
-use Rattle.std.proofs.Common.{◌≡◌, inl, inr, ℕ, ◌≤◌, ◌==◌, Bool, true, List, [], ◌∷◌, length, arith}
+use Rattle.std.proofs.Common.{◌≡◌, inl, inr, ℕ, ◌≤◌, ◌==◌, Bool, true, false, List, [], ◌∷◌, length, arith}
 use Rattle.std.specs.Prelude.{All, nat_le, ◌&&◌, ◌||◌, not, codes, slice_index}
 use Rattle.std.specs.List.{list_all}
 use Rattle.std.specs.Str.{bytes_eq}
-use Rattle.std.proofs.lemmas.Bool.{and_parts, leb-true, or_cases, eqb-true}
+use Rattle.std.proofs.lemmas.Bool.{and_parts, leb-true, not-true, or_cases, eqb-true}
 use Rattle.std.proofs.lemmas.List.Elements.{All-cons}
 use Rattle.vh_params.specs.Names.{is_name, is_name_byte, is_lower, is_digit}
 use Rattle.vh_session.specs.Keeps.{IsWord}
@@ -37,11 +37,30 @@ name_bytes : (bs : List ℕ) → list_all is_name_byte bs ≡ true → All (λ b
 name_bytes [] is = λ k d lt. absurd (omega (arith, lt))
 name_bytes (b ∷ bs) is = let both = and_parts (is_name_byte b) (list_all is_name_byte bs) is in All-cons (λ b. (33 ≤ b) × (b ≤ 126)) b bs (name_byte b both.0) (name_bytes bs both.1)
 
+-- what a name is, rule by rule
+pub record NameRules (text : List ℕ) : Type 0 where
+  pub some : 1 ≤ length text
+  pub few : length text ≤ 32
+  pub bytes : list_all is_name_byte text ≡ true
+  pub not_in : bytes_eq text (codes "in") ≡ false
+  pub not_out : bytes_eq text (codes "out") ≡ false
+
+pub name_rules : (text : List ℕ) → is_name text ≡ true → NameRules text
+name_rules text is =
+    let all = and_parts ((nat_le 1 (length text) && nat_le (length text) 32) && (is_lower (slice_index text 0) && list_all is_name_byte text)) (not (bytes_eq text (codes "in")) && not (bytes_eq text (codes "out"))) is in
+    let front = and_parts (nat_le 1 (length text) && nat_le (length text) 32) (is_lower (slice_index text 0) && list_all is_name_byte text) all.0 in
+    let long = and_parts (nat_le 1 (length text)) (nat_le (length text) 32) front.0 in
+    let back = and_parts (not (bytes_eq text (codes "in"))) (not (bytes_eq text (codes "out"))) all.1 in
+    record {
+      some = leb-true 1 (length text) long.0;
+      few = leb-true (length text) 32 long.1;
+      bytes = (and_parts (is_lower (slice_index text 0)) (list_all is_name_byte text) front.1).1;
+      not_in = not-true (bytes_eq text (codes "in")) back.0;
+      not_out = not-true (bytes_eq text (codes "out")) back.1;
+    }
+
 pub name_word : (text : List ℕ) → is_name text ≡ true → IsWord text
-name_word text is =
-    let front = (and_parts ((nat_le 1 (length text) && nat_le (length text) 32) && (is_lower (slice_index text 0) && list_all is_name_byte text)) (not (bytes_eq text (codes "in")) && not (bytes_eq text (codes "out"))) is).0 in
-    let parts = and_parts (nat_le 1 (length text) && nat_le (length text) 32) (is_lower (slice_index text 0) && list_all is_name_byte text) front in
-    (leb-true 1 (length text) (and_parts (nat_le 1 (length text)) (nat_le (length text) 32) parts.0).0, name_bytes text (and_parts (is_lower (slice_index text 0)) (list_all is_name_byte text) parts.1).1)
+name_word text is = let rules = name_rules text is in (rules.some, name_bytes text rules.bytes)
 
 -- words in a row
 
