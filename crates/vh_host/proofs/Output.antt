@@ -7,9 +7,9 @@ use Rattle.std.proofs.Math.Seq.{take-add}
 use Rattle.vh_files.specs.Causes.{Rose}
 use Rattle.vh_files.specs.Store.{Held, told, Lacks, HasNow, Grows, GrowsInPart}
 use Rattle.vh_wav.specs.Text.{frame_text, frames_text, frames_of, head_text, wav_text, data_size}
-use Rattle.vh_host.specs.SessionForm.{session_in, fault_at}
+use Rattle.vh_host.specs.SessionForm.{session_in}
 use Rattle.vh_session.specs.declared.fault.SessionKind.TheVariants.{TooLong}
-use Rattle.vh_session.specs.Reading.{session_limit}
+use Rattle.vh_session.specs.Reading.{fault, session_limit}
 use Rattle.vh_host.specs.Rendering.{gain_of, unity}
 use Rattle.vh_host.specs.Outside.{ReadAs}
 use Rattle.vh_host.specs.Stops.{samples_in}
@@ -38,7 +38,7 @@ there_from complete held name there whole =
 pub not_lacking : (complete : Bool) (held : Held) (name : List ℕ) → (complete ≡ true → IsSome (told held name)) → Lacks complete held name → ⊥
 not_lacking complete held name there lacks = false≢true (sym (ap is_some lacks.1) ∙ there lacks.0)
 
-pub too_long : (bytes : List ℕ) → session_limit < length bytes → session_in bytes ≡ Err (fault_at 0 TooLong)
+pub too_long : (bytes : List ℕ) → session_limit < length bytes → session_in bytes ≡ Err (fault 0 TooLong)
 unfolding session_in
 too_long bytes over = let t : ltb session_limit (length bytes) ≡ true = lt-ltb _ _ over in rw t refl
 

@@ -4,9 +4,8 @@ use Rattle.std.specs.Prelude.{ℕ, Bool, true, false, not, ◌||◌, ◌==◌, n
 use Rattle.std.specs.Option.{option_map_or}
 use Rattle.std.specs.Str.{bytes_eq}
 use Rattle.vh_session.specs.declared.fault.SessionFault.{SessionFault}
-use Rattle.vh_session.specs.declared.fault.SessionKind.{SessionKind}
 use Rattle.vh_session.specs.declared.fault.SessionKind.TheVariants.{BadHeader, TooLong, NotYet}
-use Rattle.vh_session.specs.Reading.{session_limit}
+use Rattle.vh_session.specs.Reading.{fault, session_limit}
 use Rattle.vh_params.specs.Names.{is_name}
 use Rattle.vh_host.specs.Lines.{line_at}
 use Rattle.vh_host.specs.Numbers.{plain_number, between}
@@ -46,16 +45,13 @@ name_in line = option_and_then if_name (between (codes "node ") (codes " gain" +
 abbrev pub names : List ℕ → List ℕ → List ℕ → List ℕ → Bool
 names front back name line = option_map_or (λ middle. bytes_eq middle name) (between front back line) false
 
-abbrev pub fault_at : ℕ → SessionKind → SessionFault
-fault_at line kind = record { line = line; kind = kind }
-
 -- go on where the line is as it has to be, or with what it says; else the line departs
 abbrev pub must : Bool → ℕ → Result Asked SessionFault → Result Asked SessionFault
 must true line next = next
-must false line next = Err (fault_at line NotYet)
+must false line next = Err (fault line NotYet)
 
 abbrev pub given : {T : Type 0} → Option T → ℕ → (T → Result Asked SessionFault) → Result Asked SessionFault
-given None line next = Err (fault_at line NotYet)
+given None line next = Err (fault line NotYet)
 given (Some value) line next = next value
 
 -- the lines behind the header
@@ -74,6 +70,6 @@ lines_in text =
 -- what a session's bytes ask for, or the first fault
 unfoldable pub session_in : List ℕ → Result Asked SessionFault
 session_in text =
-    if nat_lt session_limit (length text) then Err (fault_at 0 TooLong)
-    else (if not (bytes_eq (line_at 0 text) (ended header) || bytes_eq (line_at 0 text) header) then Err (fault_at 1 BadHeader)
+    if nat_lt session_limit (length text) then Err (fault 0 TooLong)
+    else (if not (bytes_eq (line_at 0 text) (ended header) || bytes_eq (line_at 0 text) header) then Err (fault 1 BadHeader)
     else must (bytes_eq (line_at 0 text) (ended header)) 1 (lines_in text))

@@ -10,9 +10,9 @@ use Rattle.vh_host.specs.declared.status.Place.TheVariants.{Session, Input}
 use Rattle.vh_host.specs.declared.status.Status.{Status}
 use Rattle.vh_host.specs.declared.status.Status.TheVariants as status
 use Rattle.vh_session.specs.declared.fault.SessionKind.TheVariants.{TooLong}
-use Rattle.vh_session.specs.Reading.{session_limit}
+use Rattle.vh_session.specs.Reading.{fault, session_limit}
 use Rattle.vh_host.specs.declared.render.Samples.{Samples}
-use Rattle.vh_host.specs.SessionForm.{session_in, fault_at}
+use Rattle.vh_host.specs.SessionForm.{session_in}
 use Rattle.vh_host.specs.Rendering.{input_in, gain_of, unity}
 use Rattle.vh_host.specs.Outside.{ReadAs}
 
@@ -20,18 +20,18 @@ use Rattle.vh_host.specs.Outside.{ReadAs}
 abbrev pub SessionStops : Bool → Held → List ℕ → ℕ → ℕ → Status → Type 0
 SessionStops complete held name reads reads_now status.Ok = ⊥
 SessionStops complete held name reads reads_now status.Usage = ⊥
-SessionStops complete held name reads reads_now (status.SessionRefused fault) = ReadAs complete held name (λ bytes. session_in bytes ≡ Err fault)
-SessionStops complete held name reads reads_now (status.WavRefused fault) = ⊥
+SessionStops complete held name reads reads_now (status.SessionRefused given) = ReadAs complete held name (λ bytes. session_in bytes ≡ Err given)
+SessionStops complete held name reads reads_now (status.WavRefused given) = ⊥
 SessionStops complete held name reads reads_now (status.ReadFault place) = (place ≡ Session) × (Lacks complete held name ⊎ Rose reads reads_now)
 SessionStops complete held name reads reads_now (status.WriteFault place) = ⊥
 SessionStops complete held name reads reads_now status.Memory = ⊤
 
 -- a session that is refused before it is read is too long
 abbrev pub LongStops : Bool → Held → List ℕ → Status → Type 0
-LongStops complete held name (status.SessionRefused fault) = ReadAs complete held name (λ bytes. (session_limit < length bytes) × (fault ≡ fault_at 0 TooLong))
+LongStops complete held name (status.SessionRefused given) = ReadAs complete held name (λ bytes. (session_limit < length bytes) × (given ≡ fault 0 TooLong))
 LongStops complete held name status.Ok = ⊤
 LongStops complete held name status.Usage = ⊤
-LongStops complete held name (status.WavRefused fault) = ⊤
+LongStops complete held name (status.WavRefused given) = ⊤
 LongStops complete held name (status.ReadFault place) = ⊤
 LongStops complete held name (status.WriteFault place) = ⊤
 LongStops complete held name status.Memory = ⊤
@@ -40,8 +40,8 @@ LongStops complete held name status.Memory = ⊤
 abbrev pub InputStops : Bool → Held → List ℕ → ℕ → ℕ → Status → Type 0
 InputStops complete held name reads reads_now status.Ok = ⊥
 InputStops complete held name reads reads_now status.Usage = ⊥
-InputStops complete held name reads reads_now (status.SessionRefused fault) = ⊥
-InputStops complete held name reads reads_now (status.WavRefused fault) = ReadAs complete held name (λ bytes. input_in bytes ≡ Err fault)
+InputStops complete held name reads reads_now (status.SessionRefused given) = ⊥
+InputStops complete held name reads reads_now (status.WavRefused given) = ReadAs complete held name (λ bytes. input_in bytes ≡ Err given)
 InputStops complete held name reads reads_now (status.ReadFault place) = (place ≡ Input) × (Lacks complete held name ⊎ Rose reads reads_now)
 InputStops complete held name reads reads_now (status.WriteFault place) = ⊥
 InputStops complete held name reads reads_now status.Memory = ⊤

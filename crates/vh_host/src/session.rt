@@ -1,8 +1,8 @@
 //! The sessions that are read so far.
 
 ghost use Rattle.std.specs.Prelude.{◌≡◌, ◌≤◌, Option, Some, None, Result, Ok, Err, option_copied, length, IfSome, IfOk, ◌^◌};
-ghost use Rattle.vh_host.specs.SessionForm.{length_in, size_in, name_in, names, fault_at, lines_in, session_in};
-ghost use Rattle.vh_session.specs.Reading.{session_limit};
+ghost use Rattle.vh_host.specs.SessionForm.{length_in, size_in, name_in, names, lines_in, session_in};
+ghost use Rattle.vh_session.specs.Reading.{fault, session_limit};
 ghost use Rattle.vh_host.specs.Parsed.{parsed};
 
 use crate::lines::{between, number, split_line};
@@ -57,7 +57,7 @@ fn names(line: &[u8], front: &[u8], back: &[u8], name: &[u8]) -> bool
 
 /// A line that departs from the form.
 fn not_yet(line: u32) -> SessionFault
-    ensures { result ≡ fault_at line SessionKind.NotYet }
+    ensures { result ≡ fault line SessionKind.NotYet }
 {
     SessionFault {
         line,
