@@ -98,7 +98,7 @@ def text():
         stand.pop(PICK.randrange(len(stand)))
     elif change < 0.5:
         stand.insert(PICK.randrange(1, len(stand) + 1), line())
-    whole = bytearray(b"".join(text + PICK.choice(ENDS) for text in stand))
+    whole = bytearray(b"".join(part + PICK.choice(ENDS) for part in stand))
     if PICK.random() < 0.1:
         whole[PICK.randrange(len(whole))] = PICK.choice(ODD_BYTES)
     if PICK.random() < 0.3:

@@ -53,7 +53,7 @@ class Session:
         self.presets = {}
         self.firsts = {}
         self.wires = []
-        self.lanes = {}  # by node and id: the words of its lines, and its last sample
+        self.lanes = {}  # by node and id: the words of the lane's lines
         self.last_lane = None
         self.scripts = []
 
@@ -75,10 +75,11 @@ class Session:
         return self.nodes[name][0]
 
     def parameter(self, name, word):
-        node, kind, _ = self.nodes[name]
-        need(number(word) in BUILT_IN[kind][0], "UnknownParam")
+        node, identifier = self.node(name), number(word)
+        kind = self.nodes[name][1]
+        need(identifier in BUILT_IN[kind][0], "UnknownParam")
         need(kind not in READ_ONLY, "ReadOnlyParam")
-        return node, number(word)
+        return node, identifier
 
     def setting(self, at, name, *words):
         least, most = {b"length": (0, ONE), b"channels": (1, 2), b"bits": (16, 24), b"pattern": (1, 8192)}[name]
@@ -101,7 +102,6 @@ class Session:
         self.presets[node] = (name, file)
 
     def param(self, at, _, name, identifier, value):
-        self.node(name)
         parameter = self.parameter(name, identifier)
         value = number(value, 0, ONE)
         need(parameter not in self.firsts, "Repeated")
@@ -119,7 +119,6 @@ class Session:
         self.wires.append((source, target, *aux))
 
     def lane(self, at, _, name, identifier, grain, sample, value):
-        self.node(name)
         parameter = self.parameter(name, identifier)
         numbers = (parameter[1], number(grain, 0, 24), number(sample, 0, ONE), number(value, 0, ONE))
         need(parameter not in self.lanes, "BadLane")
