@@ -1,2 +1,4 @@
 pub mod Lanes
 pub mod Lawful
+pub mod Division
+pub mod InPlace

@@ -1,8 +1,9 @@
 -- Laws of the definitions.
-use Rattle.std.specs.Prelude.{◌≡◌, ℕ, ◌*◌, ◌≤◌, ◌<◌, ◌^◌, List, [], ◌∷◌, length, replicate, map, slice_index_or, All, ℤ, pos, neg_ℤ, ◌+ℤ◌, ◌≤ℤ◌, ◌-◌, ◌⊎◌}
+use Rattle.std.specs.Prelude.{◌≡◌, ℕ, ◌+◌, ◌*◌, ◌≤◌, ◌<◌, ◌^◌, List, [], ◌∷◌, length, replicate, map, slice_index_or, All, ℤ, pos, neg_ℤ, ◌+ℤ◌, ◌*ℤ◌, ◌≤ℤ◌, ◌<ℤ◌, ◌-◌, ◌⊎◌}
 use Rattle.std.specs.List.Sorted.{IsPermutation}
 use Rattle.vh_num.specs.Values.{index_of, norm_of, quant_of}
-use Rattle.vh_num.specs.Samples.{IsWithin, clamp_of, added}
+use Rattle.vh_num.specs.Samples.{IsWithin, clamp_of, added, floor_div}
+use Rattle.vh_num.specs.Frames.{frame_at, frames_of}
 
 -- the step of a step's value is that step
 abbrev pub IndexOfNorm : Type 0
@@ -63,3 +64,19 @@ AnyOrder = (n : ℕ) (sources others : List (List ℤ)) → HasLanes n sources �
 -- a sum of 255 sources has room for one more
 abbrev pub HasRoom : Type 0
 HasRoom = (n : ℕ) (sources : List (List ℤ)) → All (All (IsWithin (2 ^ 31))) sources → length sources ≤ 255 → All (IsWithin (255 * 2 ^ 31)) (summed (replicate n (pos 0)) sources)
+
+-- the quotient rounded down is the whole number q of q d ≤ x < (q + 1) d, also below zero
+abbrev pub FloorDivRoundsDown : Type 0
+FloorDivRoundsDown = (x : ℤ) (d : ℕ) → 1 ≤ d → ((floor_div x d *ℤ pos d) ≤ℤ x) × (x <ℤ ((floor_div x d +ℤ pos 1) *ℤ pos d))
+
+-- a frame has one sample of each channel: that of its place among the n samples of the channel
+abbrev pub FrameHasSamples : Type 0
+FrameHasSamples = (channels n place : ℕ) (samples : List ℤ)
+    → (length (frame_at channels n samples place) ≡ channels)
+    × ((channel : ℕ) → channel < channels → slice_index_or (frame_at channels n samples place) channel (pos 0) ≡ slice_index_or samples (channel * n + place) (pos 0))
+
+-- samples that stand channel after channel, n of each, have n frames, and each frame is that of its place
+abbrev pub FramesAreInPlace : Type 0
+FramesAreInPlace = (channels n : ℕ) (samples : List ℤ) → (channels ≡ 1) ⊎ (channels ≡ 2) → length samples ≡ channels * n
+    → (length (frames_of channels samples) ≡ n)
+    × ((place : ℕ) → place < n → slice_index_or (frames_of channels samples) place [] ≡ frame_at channels n samples place)

@@ -1,3 +1,4 @@
 pub mod Values
 pub mod Samples
+pub mod Frames
 pub mod Laws

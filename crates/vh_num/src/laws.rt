@@ -1,6 +1,6 @@
 //! Laws of the definitions: the contracts of these functions.
 
-ghost use Rattle.vh_num.specs.Laws.{IndexOfNorm, QuantTwice, QuantWithin, ClampIsNearest, MixIsClampedSum, AnyOrder, HasRoom};
+ghost use Rattle.vh_num.specs.Laws.{IndexOfNorm, QuantTwice, QuantWithin, ClampIsNearest, MixIsClampedSum, AnyOrder, HasRoom, FloorDivRoundsDown, FrameHasSamples, FramesAreInPlace};
 
 /// The step of a step's value is that step.
 pub fn index_of_norm()
@@ -35,4 +35,19 @@ pub fn any_order()
 /// A sum of 255 sources has room for one more.
 pub fn has_room()
     ensures { HasRoom }
+{}
+
+/// A quotient that is rounded down is the whole number at or below the fraction, also below zero.
+pub fn floor_div_rounds_down()
+    ensures { FloorDivRoundsDown }
+{}
+
+/// A frame has one sample of each channel, and these stand at its place in each channel.
+pub fn frame_has_samples()
+    ensures { FrameHasSamples }
+{}
+
+/// The frames of samples that stand channel after channel are those of the places in turn.
+pub fn frames_are_in_place()
+    ensures { FramesAreInPlace }
 {}

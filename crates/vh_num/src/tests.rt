@@ -42,6 +42,9 @@ fn sums_are_exact_until_they_settle(rt: HostRuntime) {
     laws::mix_is_clamped_sum();
     laws::any_order();
     laws::has_room();
+    laws::floor_div_rounds_down();
+    laws::frame_has_samples();
+    laws::frames_are_in_place();
 }
 
 /// A fault for the test.
