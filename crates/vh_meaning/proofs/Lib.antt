@@ -1,0 +1,6 @@
+mod Later
+mod Reaching
+mod Fitting
+mod Traces
+mod Touches
+mod Applying

@@ -1,0 +1,12 @@
+pub mod Scene
+pub mod Edits
+pub mod Values
+pub mod Mix
+pub mod Frames
+pub mod World
+pub mod Rendering
+pub mod Stands
+pub mod Steps
+pub mod Trace
+pub mod Laws
+pub mod Worked
