@@ -1,5 +1,5 @@
 -- Why a call on the outside failed.
-use Rattle.std.specs.Prelude.{◌≡◌, ℕ, ◌+◌, ◌-◌, ◌^◌, ◌≤◌, min, Bool, Result, OnErr, ◌⊎◌}
+use Rattle.std.specs.Prelude.{◌≡◌, ℕ, ◌+◌, ◌-◌, ◌^◌, ◌≤◌, min, Bool, Result, OnOk, OnErr, ◌⊎◌}
 
 -- A count of faults that stood at `before` has risen: it is higher, or stands at its type's end.
 abbrev pub Rose : ℕ → ℕ → Type 0
@@ -23,3 +23,8 @@ pub record OnlyRead {Files : Type 0} (files files_now : Files) (told told_now : 
   pub complete : told_now ≡ told
   pub writes : writing_now ≡ writing
   pub later : reading ≤ reading_now
+
+-- A call that succeeds leaves the count, and one that fails leaves it or raises it by one.
+pub record CountsOnce {T E : Type 0} (before now : ℕ) (result : Result T E) : Type 0 where
+  pub succeeded : OnOk result (now ≡ before)
+  pub failed : OnErr result ((now ≡ before) ⊎ (now ≡ min (before + 1) (2 ^ 64 - 1)))

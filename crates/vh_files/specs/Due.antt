@@ -8,6 +8,10 @@ use Rattle.vh_files.specs.declared.due.Calls.{Calls}
 abbrev pub next_number : ℕ → ℕ
 next_number count = min (count + 1) (2 ^ 64 - 1)
 
+-- no call was made
+abbrev pub no_calls : Calls
+no_calls = record { size = 0; read = 0; create = 0; append = 0 }
+
 -- how many calls of a kind were made
 abbrev pub made : Calls → Op → ℕ
 made calls Size = calls.size

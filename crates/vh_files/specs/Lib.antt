@@ -5,3 +5,4 @@ pub mod Fields
 pub mod MemFiles
 pub mod Shelf
 pub mod SureFiles
+pub mod Disk

@@ -18,6 +18,13 @@ failing_in store = store.failing.items
 abbrev pub calls_in : MemFiles → Calls
 calls_in store = store.calls
 
+-- how many calls of `size` and `read` failed, and how many of `create` and `append`
+abbrev pub read_faults_in : MemFiles → ℕ
+read_faults_in store = store.read_faults
+
+abbrev pub write_faults_in : MemFiles → ℕ
+write_faults_in store = store.write_faults
+
 -- what was said
 abbrev pub said_in : MemSay → List ℕ
 said_in say = say.said.items
@@ -29,3 +36,7 @@ failing_writes_in say = say.failing.items
 -- how many writes were made
 abbrev pub writes_in : MemSay → ℕ
 writes_in say = say.writes
+
+-- how many of them failed
+abbrev pub faults_in : MemSay → ℕ
+faults_in say = say.faults

@@ -34,8 +34,13 @@ pub struct DiskFiles<R: Disk + AllocGlobal + Drop> {
 }
 
 impl<R: Disk + AllocGlobal + Drop> DiskFiles<R> {
-    /// Real files through this runtime.
-    pub fn new(rt: R) -> DiskFiles<R> {
+    ghost use Rattle.vh_files.specs.Disk.{disk_read_faults, disk_write_faults};
+
+    /// Real files through this runtime. No fault was counted yet.
+    pub fn new(rt: R) -> DiskFiles<R>
+        ensures read_faults { disk_read_faults result ≡ 0 }
+        ensures write_faults { disk_write_faults result ≡ 0 }
+    {
         DiskFiles {
             handles: Handles {
                 rt,
@@ -56,8 +61,12 @@ pub struct OutSay<R: Print + Drop> {
 }
 
 impl<R: Print + Drop> OutSay<R> {
-    /// Standard output of this runtime.
-    pub fn new(rt: R) -> OutSay<R> {
+    ghost use Rattle.vh_files.specs.Disk.{out_faults};
+
+    /// Standard output of this runtime. No fault was counted yet.
+    pub fn new(rt: R) -> OutSay<R>
+        ensures { out_faults result ≡ 0 }
+    {
         OutSay { rt, faults: 0 }
     }
 }

@@ -2,8 +2,8 @@
 
 ghost use Rattle.std.specs.Prelude.{◌≡◌, ◌≢◌, ◌↔◌, ◌⊎◌, ◌≤◌, ℕ, min, Bool, true, List, [], ◌∷◌, ◌++◌, length, take, drop, Option, Some, None, OnOk, OnErr, IfOk, IsErr, IsOk, Contains, option_copied};
 ghost use Rattle.std.specs.FinMap.{empty};
-ghost use Rattle.vh_files.specs.Causes.{Rose, HasCause, HasCauseOrLacks};
-ghost use Rattle.vh_files.specs.Due.{next_number, counted, IsDue};
+ghost use Rattle.vh_files.specs.Causes.{Rose, HasCause, HasCauseOrLacks, CountsOnce};
+ghost use Rattle.vh_files.specs.Due.{no_calls, next_number, counted, IsDue};
 ghost use Rattle.vh_files.specs.Store.{told, Lacks, ReadsAt, HasNow, TakesPart, SameElsewhere, Grows, SaysMore};
 
 use crate::due::{Calls, Op, is_due};
@@ -24,12 +24,15 @@ pub struct MemFiles {
 }
 
 impl MemFiles {
-    ghost use Rattle.vh_files.specs.MemFiles.{files_in, failing_in, calls_in};
+    ghost use Rattle.vh_files.specs.MemFiles.{files_in, failing_in, calls_in, read_faults_in, write_faults_in};
 
-    /// A store without files.
+    /// A store without files, of which no call was made and no fault was counted.
     pub fn new(alloc: Global) -> Result<MemFiles, AllocError>
         ensures files { IfOk result (λ store. files_in store ≡ empty) }
         ensures failing { IfOk result (λ store. failing_in store ≡ []) }
+        ensures calls { IfOk result (λ store. calls_in store ≡ no_calls) }
+        ensures read_faults { IfOk result (λ store. read_faults_in store ≡ 0) }
+        ensures write_faults { IfOk result (λ store. write_faults_in store ≡ 0) }
         ensures succeeds { IsOk result }
     {
         Ok(MemFiles {
@@ -49,6 +52,8 @@ impl MemFiles {
         ensures err { OnErr result (files_in self.new ≡ files_in self.old) }
         ensures failing { failing_in self.new ≡ failing_in self.old }
         ensures calls { calls_in self.new ≡ calls_in self.old }
+        ensures read_faults { read_faults_in self.new ≡ read_faults_in self.old }
+        ensures write_faults { write_faults_in self.new ≡ write_faults_in self.old }
     {
         self.shelf.put(alloc, name, bytes)
     }
@@ -60,6 +65,8 @@ impl MemFiles {
         ensures err { OnErr result (failing_in self.new ≡ failing_in self.old) }
         ensures files { files_in self.new ≡ files_in self.old }
         ensures calls { calls_in self.new ≡ calls_in self.old }
+        ensures read_faults { read_faults_in self.new ≡ read_faults_in self.old }
+        ensures write_faults { write_faults_in self.new ≡ write_faults_in self.old }
     {
         self.failing.push((op, number))?;
         Ok(())
@@ -74,25 +81,26 @@ impl MemFiles {
 }
 
 impl Files for MemFiles {
-    ghost use Rattle.vh_files.specs.MemFiles.{files_in, failing_in, calls_in};
+    ghost use Rattle.vh_files.specs.MemFiles.{files_in, failing_in, calls_in, read_faults_in, write_faults_in};
 
     ghost held = { files_in };
 
     ghost complete = { λ _. true };
 
-    ghost read_faults = { λ store. store.read_faults };
+    ghost read_faults = { read_faults_in };
 
-    ghost write_faults = { λ store. store.write_faults };
+    ghost write_faults = { write_faults_in };
 
     fn size(&mut self, name: &str) -> Result<u64, Failed>
         ensures length { (bytes : List ℕ) → told (files_in self.old) name.now ≡ Some bytes → IfOk result (λ n. n ≡ length bytes) }
         ensures lacking { Lacks true (files_in self.old) name.now → IsErr result }
-        ensures cause { HasCauseOrLacks (Lacks true (files_in self.old) name.now) self.old.read_faults self.new.read_faults result }
+        ensures cause { HasCauseOrLacks (Lacks true (files_in self.old) name.now) (read_faults_in self.old) (read_faults_in self.new) result }
         ensures held { files_in self.new ≡ files_in self.old }
-        ensures writes { self.new.write_faults ≡ self.old.write_faults }
+        ensures writes { write_faults_in self.new ≡ write_faults_in self.old }
         // It fails where the name is missing or the call is listed, and nowhere else.
         ensures fails { IsErr result ↔ ((told (files_in self.old) name.now ≡ None) ⊎ IsDue (failing_in self.old) (calls_in self.old) Op.Size) }
         ensures counted { calls_in self.new ≡ counted (calls_in self.old) Op.Size }
+        ensures once { CountsOnce (read_faults_in self.old) (read_faults_in self.new) result }
         ensures failing { failing_in self.new ≡ failing_in self.old }
     {
         let due = is_due(self.failing.as_slice(), &mut self.calls, Op::Size);
@@ -110,13 +118,14 @@ impl Files for MemFiles {
         ensures bound { IfOk result (λ n. n ≤ length buf.new) }
         ensures bytes { (bytes : List ℕ) → told (files_in self.old) name.now ≡ Some bytes → IfOk result (λ n. ReadsAt bytes at n buf.new) }
         ensures lacking { Lacks true (files_in self.old) name.now → IsErr result }
-        ensures cause { HasCauseOrLacks (Lacks true (files_in self.old) name.now) self.old.read_faults self.new.read_faults result }
+        ensures cause { HasCauseOrLacks (Lacks true (files_in self.old) name.now) (read_faults_in self.old) (read_faults_in self.new) result }
         ensures held { files_in self.new ≡ files_in self.old }
-        ensures writes { self.new.write_faults ≡ self.old.write_faults }
+        ensures writes { write_faults_in self.new ≡ write_faults_in self.old }
         // As much is read as is there and fits.
         ensures full { (bytes : List ℕ) → told (files_in self.old) name.now ≡ Some bytes → IfOk result (λ n. n ≡ min (length buf.new) (length (drop at bytes))) }
         ensures fails { IsErr result ↔ ((told (files_in self.old) name.now ≡ None) ⊎ IsDue (failing_in self.old) (calls_in self.old) Op.Read) }
         ensures counted { calls_in self.new ≡ counted (calls_in self.old) Op.Read }
+        ensures once { CountsOnce (read_faults_in self.old) (read_faults_in self.new) result }
         ensures failing { failing_in self.new ≡ failing_in self.old }
     {
         let due = is_due(self.failing.as_slice(), &mut self.calls, Op::Read);
@@ -134,10 +143,11 @@ impl Files for MemFiles {
         ensures empty { OnOk result (HasNow true (told (files_in self.new) name.now) []) }
         ensures others { SameElsewhere name.now (files_in self.old) (files_in self.new) }
         ensures err { OnErr result (files_in self.new ≡ files_in self.old) }
-        ensures cause { HasCause self.old.write_faults self.new.write_faults result }
-        ensures reads { self.new.read_faults ≡ self.old.read_faults }
+        ensures cause { HasCause (write_faults_in self.old) (write_faults_in self.new) result }
+        ensures reads { read_faults_in self.new ≡ read_faults_in self.old }
         ensures fails { IsDue (failing_in self.old) (calls_in self.old) Op.Create → IsErr result }
         ensures counted { calls_in self.new ≡ counted (calls_in self.old) Op.Create }
+        ensures once { CountsOnce (write_faults_in self.old) (write_faults_in self.new) result }
         ensures failing { failing_in self.new ≡ failing_in self.old }
     {
         let due = is_due(self.failing.as_slice(), &mut self.calls, Op::Create);
@@ -159,12 +169,13 @@ impl Files for MemFiles {
         ensures others { SameElsewhere name.now (files_in self.old) (files_in self.new) }
         ensures err { OnErr result (files_in self.new ≡ files_in self.old) }
         ensures lacking { Lacks true (files_in self.old) name.now → IsErr result }
-        ensures cause { HasCauseOrLacks (Lacks true (files_in self.old) name.now) self.old.write_faults self.new.write_faults result }
-        ensures reads { self.new.read_faults ≡ self.old.read_faults }
+        ensures cause { HasCauseOrLacks (Lacks true (files_in self.old) name.now) (write_faults_in self.old) (write_faults_in self.new) result }
+        ensures reads { read_faults_in self.new ≡ read_faults_in self.old }
         // All of the bytes are taken.
         ensures all { IfOk result (λ n. n ≡ length bytes.now) }
         ensures fails { IsDue (failing_in self.old) (calls_in self.old) Op.Append → IsErr result }
         ensures counted { calls_in self.new ≡ counted (calls_in self.old) Op.Append }
+        ensures once { CountsOnce (write_faults_in self.old) (write_faults_in self.new) result }
         ensures failing { failing_in self.new ≡ failing_in self.old }
     {
         let due = is_due(self.failing.as_slice(), &mut self.calls, Op::Append);
@@ -204,13 +215,14 @@ pub struct MemSay {
 }
 
 impl MemSay {
-    ghost use Rattle.vh_files.specs.MemFiles.{said_in, failing_writes_in, writes_in};
+    ghost use Rattle.vh_files.specs.MemFiles.{said_in, failing_writes_in, writes_in, faults_in};
 
-    /// Nothing is said yet.
+    /// Nothing is said yet, and no fault was counted.
     pub fn new(alloc: Global) -> Result<MemSay, AllocError>
         ensures said { IfOk result (λ say. said_in say ≡ []) }
         ensures failing { IfOk result (λ say. failing_writes_in say ≡ []) }
         ensures writes { IfOk result (λ say. writes_in say ≡ 0) }
+        ensures faults { IfOk result (λ say. faults_in say ≡ 0) }
         ensures succeeds { IsOk result }
     {
         Ok(MemSay {
@@ -234,6 +246,7 @@ impl MemSay {
         ensures err { OnErr result (failing_writes_in self.new ≡ failing_writes_in self.old) }
         ensures said { said_in self.new ≡ said_in self.old }
         ensures writes { writes_in self.new ≡ writes_in self.old }
+        ensures faults { faults_in self.new ≡ faults_in self.old }
     {
         self.failing.push(number)?;
         Ok(())
@@ -241,21 +254,22 @@ impl MemSay {
 }
 
 impl Say for MemSay {
-    ghost use Rattle.vh_files.specs.MemFiles.{said_in, failing_writes_in, writes_in};
+    ghost use Rattle.vh_files.specs.MemFiles.{said_in, failing_writes_in, writes_in, faults_in};
 
     ghost said = { λ say. Some (said_in say) };
 
-    ghost faults = { λ say. say.faults };
+    ghost faults = { faults_in };
 
     fn write(&mut self, bytes: &[u8]) -> Result<usize, Failed>
         ensures part { IfOk result (TakesPart bytes.now) }
         ensures added { IfOk result (λ n. SaysMore (Some (said_in self.old)) (Some (said_in self.new)) (take n bytes.now)) }
         ensures err { OnErr result (Some (said_in self.new) ≡ Some (said_in self.old)) }
-        ensures cause { HasCause self.old.faults self.new.faults result }
+        ensures cause { HasCause (faults_in self.old) (faults_in self.new) result }
         // All of the bytes are taken.
         ensures all { IfOk result (λ n. n ≡ length bytes.now) }
         ensures fails { Contains (failing_writes_in self.old) (next_number (writes_in self.old)) → IsErr result }
         ensures counted { writes_in self.new ≡ next_number (writes_in self.old) }
+        ensures once { CountsOnce (faults_in self.old) (faults_in self.new) result }
         ensures failing { failing_writes_in self.new ≡ failing_writes_in self.old }
     {
         self.writes = self.writes.saturating_add(1);

@@ -1,14 +1,24 @@
+ghost use Rattle.std.specs.Prelude.{◌≡◌, IfOk};
+ghost use Rattle.vh_files.specs.Due.{no_calls};
+ghost use Rattle.vh_files.specs.MemFiles.{calls_in, read_faults_in, write_faults_in};
+
 use super::{
     DiskFiles, Failed, Files, MemFiles, MemSay, Op, OutSay, Say, SureFiles, SureSay, append_all,
     field16, field32, field64, fill, say_all,
 };
 use std::test::Fail;
 
-/// A store with one file of six bytes.
-fn store(rt: &HostRuntime) -> Result<MemFiles, std::alloc::AllocError> {
+/// A store with one file of six bytes and one call that fails. No call was made and no fault was
+/// counted.
+fn store(rt: &HostRuntime) -> Result<MemFiles, std::alloc::AllocError>
+    ensures calls { IfOk result (λ files. calls_in files ≡ no_calls) }
+    ensures read_faults { IfOk result (λ files. read_faults_in files ≡ 0) }
+    ensures write_faults { IfOk result (λ files. write_faults_in files ≡ 0) }
+{
     let alloc = rt.alloc();
     let mut files = MemFiles::new(alloc)?;
     files.put(alloc, "a", Vec::from_slice(alloc, b"abcdef")?)?;
+    files.fail(alloc, Op::Append, 2)?;
     Ok(files)
 }
 
@@ -31,6 +41,7 @@ fn a_store_in_memory_holds_files(rt: HostRuntime) -> Result<(), Fail> {
     assert_eq!(rt; files.read("a", 1, &mut buf), Ok(2));
     assert_eq!(rt; &buf[..3], b"bc\0".as_slice());
     assert_eq!(rt; files.append("b", b"xy"), Ok(2));
+    assert_eq!(rt; files.append("b", b"z"), Err(Failed));
     assert_eq!(rt; append_all(&mut files, "b", b"z"), Ok(()));
     assert_eq!(rt; files.get("b"), Some(b"xyz".as_slice()));
     assert_eq!(rt; files.create("a"), Ok(()));
@@ -48,7 +59,6 @@ fn a_listed_call_fails(rt: HostRuntime) -> Result<(), Fail> {
     files.fail(alloc, Op::Size, 2)?;
     files.fail(alloc, Op::Read, 1)?;
     files.fail(alloc, Op::Create, 1)?;
-    files.fail(alloc, Op::Append, 2)?;
     assert_eq!(rt; files.size("a"), Ok(6));
     assert_eq!(rt; files.size("a"), Err(Failed));
     assert_eq!(rt; files.size("a"), Ok(6));
@@ -114,6 +124,7 @@ fn a_file_on_the_disk_is_written_and_read(rt: HostRuntime) -> Result<(), Fail> {
     assert_eq!(rt; files.append("vh_files_no_such_file", b"x"), Err(Failed));
     std::fs::remove_file(&rt, "vh_files_test_file")?;
     let mut say = OutSay::new(rt.clone()?);
+    assert_eq!(rt; say_all(&mut say, b"said on standard output\n"), Ok(()));
     assert_eq!(rt; say.write(b""), Ok(0));
     Ok(())
 }
