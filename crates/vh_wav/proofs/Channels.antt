@@ -6,7 +6,12 @@ use Rattle.vh_files.specs.Fields.{number_of}
 use Rattle.vh_wav.specs.declared.head.Head.{Head}
 use Rattle.vh_wav.specs.Judged.{align_of}
 use Rattle.vh_wav.specs.Heads.{IsHead}
-use Rattle.vh_wav.specs.Samples.{signed, sample_at, HoldsFrames, HasWhole, HasBytes}
+use Rattle.vh_wav.specs.Samples.{signed, sample_at, sample_in, HasWhole, HasBytes}
+
+-- the n samples of each channel from this frame on stand in the list, channel after channel
+abbrev pub HoldsSamples : List ℕ → Head → ℕ → ℕ → List ℤ → Type 0
+HoldsSamples bytes head from n out =
+    (channel i : ℕ) → channel < head.channels → i < n → get_or out (channel * n + i) (pos 0) ≡ sample_in bytes head channel (from + i)
 
 -- a window within the front of a list
 window_in_front : (rest : List ℕ) (room k n : ℕ) → k + n ≤ room → take n (drop k (take room rest)) ≡ take n (drop k rest)
@@ -29,7 +34,7 @@ choose t false x y z e h = rw e refl
 
 -- the frames that were decoded from the bytes of those that are there
 pub frames_hold : (bytes : List ℕ) (head : Head) (from n whole align : ℕ) (buf part : List ℕ) (out : List ℤ) → IsHead head → align ≡ align_of head.channels head.bits → HasWhole bytes head from n whole → HasBytes bytes head from whole buf → part ≡ take (whole * align) buf
-    → ((channel i : ℕ) → channel < head.channels → i < n → get_or out (channel * n + i) (pos 0) ≡ cond (ltb i whole) (sample_at head.bits part (i * align_of head.channels head.bits + channel * (head.bits / 8))) (pos 0)) → HoldsFrames bytes head from n out
+    → ((channel i : ℕ) → channel < head.channels → i < n → get_or out (channel * n + i) (pos 0) ≡ cond (ltb i whole) (sample_at head.bits part (i * align_of head.channels head.bits + channel * (head.bits / 8))) (pos 0)) → HoldsSamples bytes head from n out
 frames_hold bytes head from n whole align buf part out lawful align_is counts holds part_is decoded = λ channel i on within.
     let width : ℕ = head.bits / 8 in
     let fits : width * (channel + 1) ≤ width * head.channels = mul-le-mul_left width (omega arith) in

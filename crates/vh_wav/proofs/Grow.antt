@@ -4,7 +4,8 @@ use Rattle.std.proofs.lemmas.List.{flat_map_more, take_more, append-nil}
 use Rattle.std.proofs.lemmas.Slice.{take-put_mid}
 use Rattle.std.proofs.Math.Nat.{mul-le-mul_left}
 use borrow.Rule.Slice.PartMut.{put_mid}
-use Rattle.vh_wav.specs.Text.{sample_bytes, frames_text, frames_of}
+use Rattle.vh_num.specs.Frames.{frames_of}
+use Rattle.vh_wav.specs.Text.{sample_bytes, frames_text}
 
 -- the bytes of one element more, behind those of the elements before
 pub grown : {X : Type 0} (f : X → List ℕ) (xs : List X) (i w k : ℕ) (d : X) (out part : List ℕ) → i < length xs → take (w * i) out ≡ flat_map f (take i xs) → part ≡ f (get_or xs i d) → length part ≡ w → w * length xs ≤ length out → take (w * (i + 1)) (put_mid (w * i) k out part) ≡ flat_map f (take (i + 1) xs)

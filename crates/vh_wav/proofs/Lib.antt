@@ -5,3 +5,4 @@ pub mod Whole
 pub mod Channels
 pub mod Numbers
 pub mod ReadBack
+pub mod Held

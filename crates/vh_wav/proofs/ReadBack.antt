@@ -13,7 +13,8 @@ use Rattle.vh_wav.specs.declared.head.Format.{Format}
 use Rattle.vh_wav.specs.Chunks.{Chunk, chunk_at, chunks_after}
 use Rattle.vh_wav.specs.Judged.{wav_head, is_riff, verdict, format_of, head_of, align_of}
 use Rattle.vh_wav.specs.Samples.{sample_at}
-use Rattle.vh_wav.specs.Text.{Frame, sample_bytes, frame_text, frames_text, data_size, head_text, wav_text}
+use Rattle.vh_num.specs.Frames.{Frame}
+use Rattle.vh_wav.specs.Text.{sample_bytes, frame_text, frames_text, data_size, head_text, wav_text}
 use Rattle.vh_wav.specs.Laws.{HasChannels, read_back, WrittenIsRead}
 use Rattle.vh_wav.proofs.Channels.{same_sample}
 use Rattle.vh_wav.proofs.Numbers.{number16, number32, back16, back24, lt_yes, lt_no}

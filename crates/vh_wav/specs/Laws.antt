@@ -1,9 +1,12 @@
 -- What a WAV file holds, and what is read of a file that was written.
-use Rattle.std.specs.Prelude.{◌≡◌, ℕ, ◌<◌, ◌≤◌, ◌^◌, ◌==◌, List, [], length, map, All, Ok, ℤ, pos, ◌*ℤ◌, ◌⊎◌, slice_index_or, if◌then◌else◌}
+use Rattle.std.specs.Prelude.{◌≡◌, ℕ, ◌+◌, ◌*◌, ◌<◌, ◌≤◌, ◌^◌, ◌==◌, List, [], length, map, take, drop, All, Ok, ℤ, pos, ◌*ℤ◌, ◌⊎◌, slice_index_or, if◌then◌else◌}
 use Rattle.vh_wav.specs.declared.head.Head.{Head}
 use Rattle.vh_wav.specs.Judged.{wav_head}
 use Rattle.vh_wav.specs.Samples.{sample_in}
-use Rattle.vh_wav.specs.Text.{Frame, rounded, wav_text}
+use Rattle.vh_wav.specs.Text.{rounded, wav_text}
+use Rattle.vh_wav.specs.Frames.{frames_in, HoldsFrames}
+use Rattle.vh_wav.specs.Heads.{IsHead}
+use Rattle.vh_num.specs.Frames.{Frame, frames_of}
 
 -- each frame has so many channels
 abbrev pub HasChannels : ℕ → List Frame → Type 0
@@ -34,3 +37,13 @@ read_back bits x = if bits == 16 then rounded 16 x *ℤ pos 256 else rounded 24 
 abbrev pub WrittenIsRead : Type 0
 WrittenIsRead = (channels rate bits : ℕ) (frames : List Frame) → IsWritable channels rate bits frames
     → IsWav (wav_text channels rate bits frames) (record { channels = channels; rate = rate; bits = bits; at = 44; frames = length frames }) (map (map (read_back bits)) frames)
+
+-- a file whose head is accepted has the frames of that head's data, and no others
+abbrev pub HoldsItsFrames : Type 0
+HoldsItsFrames = (bytes : List ℕ) (head : Head) → wav_head bytes ≡ Ok head
+    → IsWav bytes head (frames_in bytes head) × ((frames : List Frame) → IsWav bytes head frames → frames ≡ frames_in bytes head)
+
+-- samples that hold the file's frames from one on are these frames, as a part of the file's list
+abbrev pub BlockIsPart : Type 0
+BlockIsPart = (bytes : List ℕ) (head : Head) (from n : ℕ) (samples : List ℤ) → IsHead head → length samples ≡ head.channels * n → from + n ≤ head.frames
+    → HoldsFrames bytes head from n samples → frames_of head.channels samples ≡ take n (drop from (frames_in bytes head))

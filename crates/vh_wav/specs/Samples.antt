@@ -1,5 +1,5 @@
 -- Samples in a WAV file.
-use Rattle.std.specs.Prelude.{◌≡◌, ℕ, suc, ◌+◌, ◌*◌, ◌-◌, ◌/◌, ◌^◌, ◌<◌, nat_lt, nat_le, ◌&&◌, ◌==◌, List, length, take, drop, ℤ, pos, negsuc, ◌*ℤ◌, if◌then◌else◌, slice_index_or}
+use Rattle.std.specs.Prelude.{◌≡◌, ℕ, suc, ◌+◌, ◌*◌, ◌-◌, ◌/◌, ◌^◌, ◌<◌, nat_lt, nat_le, ◌&&◌, ◌==◌, List, length, take, drop, ℤ, pos, negsuc, ◌*ℤ◌, if◌then◌else◌}
 use Rattle.vh_files.specs.Fields.{field_at}
 use Rattle.vh_wav.specs.declared.head.Head.{Head}
 use Rattle.vh_wav.specs.Judged.{align_of}
@@ -18,11 +18,6 @@ sample_in bytes head channel frame =
     let align = align_of head.channels head.bits in
     if nat_lt frame head.frames && nat_le (head.at + (frame + 1) * align) (length bytes)
     then sample_at head.bits bytes (head.at + (frame * align + channel * (head.bits / 8))) else pos 0
-
--- the n samples of each channel from this frame on stand in the list, channel after channel
-abbrev pub HoldsFrames : List ℕ → Head → ℕ → ℕ → List ℤ → Type 0
-HoldsFrames bytes head from n out =
-    (channel i : ℕ) → channel < head.channels → i < n → slice_index_or out (channel * n + i) (pos 0) ≡ sample_in bytes head channel (from + i)
 
 -- of n frames from this one on, the first so many are those of the head whose bytes are all in the file
 abbrev pub HasWhole : List ℕ → Head → ℕ → ℕ → ℕ → Type 0

@@ -1,13 +1,10 @@
 -- The WAV file that is written: a head of 44 bytes, and the frames.
-use Rattle.std.specs.Prelude.{ℕ, zero, suc, ◌+◌, ◌*◌, ◌-◌, ◌/◌, ◌%◌, ◌^◌, min, ◌==◌, List, [], ◌∷◌, ◌++◌, length, map, take, drop, replicate, ℤ, pos, negsuc, if◌then◌else◌, codes}
-use Rattle.std.specs.List.{flat_map, zip}
+use Rattle.std.specs.Prelude.{ℕ, suc, ◌+◌, ◌*◌, ◌-◌, ◌/◌, ◌%◌, ◌^◌, min, ◌==◌, List, ◌++◌, length, replicate, ℤ, pos, negsuc, if◌then◌else◌, codes}
+use Rattle.std.specs.List.{flat_map}
 use Rattle.std.specs.Int.{bytes_low_first}
 use Rattle.vh_num.specs.Samples.{floor_div}
+use Rattle.vh_num.specs.Frames.{Frame}
 use Rattle.vh_wav.specs.Judged.{align_of}
-
--- one sample of each channel
-abbrev pub Frame : Type 0
-Frame = List ℤ
 
 -- the lowest n bytes of a number, the least first
 abbrev pub little_bytes : ℕ → ℕ → List ℕ
@@ -37,12 +34,6 @@ frame_text bits frame = flat_map (sample_bytes bits) frame
 
 abbrev pub frames_text : ℕ → List Frame → List ℕ
 frames_text bits frames = flat_map (frame_text bits) frames
-
--- the frames of a list that has the samples channel after channel, of one channel or two
-abbrev pub frames_of : ℕ → List ℤ → List Frame
-frames_of zero xs = []
-frames_of (suc zero) xs = map (λ x. x ∷ []) xs
-frames_of (suc (suc _)) xs = map (λ p. p.0 ∷ p.1 ∷ []) (zip (take (length xs / 2) xs) (drop (length xs / 2) xs))
 
 -- the bytes of the frames, and the byte that makes them even
 abbrev pub data_size : ℕ → ℕ → ℕ → ℕ

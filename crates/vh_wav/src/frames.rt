@@ -4,7 +4,8 @@ ghost use Rattle.vh_files.specs.Fields.{field_at};
 ghost use Rattle.vh_files.specs.Store.{told};
 ghost use Rattle.vh_wav.specs.Heads.{IsHead, frames_end};
 ghost use Rattle.vh_wav.specs.Judged.{align_of};
-ghost use Rattle.vh_wav.specs.Samples.{signed, sample_at, HoldsFrames, HasWhole, HasBytes};
+ghost use Rattle.vh_wav.specs.Samples.{signed, sample_at, HasWhole, HasBytes};
+ghost use Rattle.vh_wav.specs.Frames.{HoldsFrames};
 
 use crate::head::Head;
 use byteorder::{ByteOrder, LittleEndian};
@@ -144,8 +145,9 @@ fn fetch<F: Files>(
     Ok(got / align)
 }
 
-/// Reads `n` frames from frame `from` on, channel after channel; those past the end are zero. The
-/// bytes go through `scratch`.
+/// Reads `n` frames from frame `from` on into `out`, channel after channel, `n` samples of each in
+/// units of 2^-23 of full scale. Frames past the file's last are silent. The bytes go through
+/// `scratch`.
 pub fn read_frames<F: Files>(
     files: &mut F,
     name: &str,

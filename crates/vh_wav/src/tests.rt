@@ -226,5 +226,7 @@ fn the_first_format_and_the_first_samples_count(rt: HostRuntime) -> Result<(), F
         Err(HeadRefused::Wav(WavFault::Truncated))
     );
     laws::written_is_read();
+    laws::holds_its_frames();
+    laws::block_is_part();
     Ok(())
 }

@@ -1,6 +1,7 @@
 ghost use Rattle.std.specs.Prelude.{◌≡◌, ◌≤◌, ◌⊎◌, ℕ, ◌+◌, ◌*◌, ◌/◌, ◌^◌, ◌<◌, length, take, drop, ◌++◌, ◌%◌};
 ghost use Rattle.std.specs.List.{flat_map, zip};
-ghost use Rattle.vh_wav.specs.Text.{head_text, sample_bytes, frames_text, frames_of, rounded};
+ghost use Rattle.vh_num.specs.Frames.{frames_of};
+ghost use Rattle.vh_wav.specs.Text.{head_text, sample_bytes, frames_text, rounded};
 
 /// The head of the file that is written: `RIFF`, a `fmt ` chunk of 16 bytes and the front of the
 /// `data` chunk, for so many frames.

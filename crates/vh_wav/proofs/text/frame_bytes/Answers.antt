@@ -2,7 +2,8 @@ use Rattle.std.proofs.Common.{◌≡◌, ℕ, ◌*◌, ◌/◌, ◌%◌, ◌++�
 use Rattle.std.proofs.Math.Nat.{mul_comm}
 use Rattle.std.proofs.lemmas.List.{take_rest, length-take-le}
 use Rattle.std.specs.List.{flat_map, zip}
-use Rattle.vh_wav.specs.Text.{sample_bytes, frames_text, frames_of}
+use Rattle.vh_num.specs.Frames.{frames_of}
+use Rattle.vh_wav.specs.Text.{sample_bytes, frames_text}
 use Rattle.vh_wav.proofs.Grow.{mono_text, stereo_text}
 use Rattle.vh_wav.proofs.text.frame_bytes.Goals as goal
 
