@@ -1,4 +1,13 @@
+ghost use Rattle.std.specs.Prelude.{◌≡◌, Some};
+
 use super::{Interface, Tuid, iid, laws};
+
+/// An identifier that goes through its text.
+fn through_text(id: Tuid) -> Option<Tuid>
+    ensures { result ≡ Some id }
+{
+    Tuid::read(&id.write_upper())
+}
 
 #[test]
 fn texts_are_read_in_either_case(rt: HostRuntime) {
@@ -18,6 +27,7 @@ fn texts_are_read_in_either_case(rt: HostRuntime) {
         assert_eq!(rt; Tuid::read(text), want);
     }
     assert_eq!(rt; id.write_upper(), *b"0123456789ABCDEFFEDCBA9876543210");
+    assert_eq!(rt; through_text(id), Some(id));
 }
 
 #[test]

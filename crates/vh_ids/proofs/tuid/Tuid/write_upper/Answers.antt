@@ -1,17 +1,9 @@
-use Rattle.std.proofs.Common.{rules, ◌≡◌, map, Result, Ok, Err, ap, ◌∙◌}
-use Rattle.std.specs.Result.{IsOk, OnOk}
-use Rattle.std.specs.Char.{to_ascii_uppercase}
-use Rattle.std.proofs.lemmas.Bool.{false≢true}
-use Rattle.hex.specs.Hex.{encode_lower}
-use Rattle.vh_ids.proofs.Digits.{raised_text}
+use Rattle.std.proofs.Common.{ℕ, List, Result, option_map, ap}
+use Rattle.std.specs.Result.{result_ok}
+use Rattle.hex.specs.declared.error.FromHexError.{FromHexError}
+use Rattle.vh_ids.specs.declared.tuid.Tuid.{Tuid}
 use Rattle.vh_ids.proofs.tuid.Tuid.write_upper.Goals as goal
 
-on_ok : {T E : Type 0} (r : Result T E) (P : Type 0) → IsOk r → OnOk r P → P
-on_ok (Ok x) P ok h = h
-on_ok (Err e) P ok h = absurd (false≢true ok)
-
-pub returns : goal.returns
-returns c =
-    let ok : IsOk c.encode_to_slice.result = c.encode_to_slice.ensures.fits.1 (search rules) in
-    let written = on_ok c.encode_to_slice.result (c.encode_to_slice.new.output ≡ encode_lower c.args.self.now.0) ok c.encode_to_slice.ensures.written in
-    c.make_ascii_uppercase.ensures.after ∙ ap (map to_ascii_uppercase) written ∙ raised_text c.args.self.now.0
+pub returns-clause-reads_back : goal.returns-clause-reads_back
+returns-clause-reads_back c =
+    ap (λ (r : Result (List ℕ) FromHexError). option_map {U = Tuid} (λ bytes. record { 0 = bytes }) (result_ok r)) c.upper_text.ensures.reads_back
