@@ -1,4 +1,5 @@
 pub mod Short
+pub mod Flags
 pub mod Params
 pub mod Tables
 pub mod ValueText

@@ -29,6 +29,7 @@ pub struct NodeTable {
 impl NodeTable {
     ghost use Rattle.vh_params.specs.Short.{label_text};
     ghost use Rattle.vh_params.specs.Tables.{params_of, units_of};
+    ghost use Rattle.vh_params.specs.Params.{IsLawful};
     ghost use Rattle.vh_params.specs.Nodes.{nodes_of, node_at, LacksName, AreApart, node_of, info_in, Entry, stored_node};
 
     /// A table without nodes.
@@ -98,7 +99,7 @@ impl NodeTable {
     /// A parameter of a node; None where the node or the parameter isn't there.
     pub fn info(&self, node: u32, id: u32) -> Option<&ParamInfo>
         ensures value { option_copied result ≡ info_in (nodes_of self.now) node id }
-        ensures few_steps { IfSome result (λ param. param.now.steps ≤ 4095) }
+        ensures lawful { IfSome result (λ param. IsLawful (node_at (nodes_of self.now) node).units param.now) }
     {
         if node >= self.len() {
             return None;

@@ -1,5 +1,5 @@
 ghost use Rattle.std.specs.Prelude.{◌≡◌, None};
-ghost use Rattle.vh_params.specs.Params.{has_flag};
+ghost use Rattle.vh_params.specs.Flags.{is_read_only, is_automatable};
 
 use crate::label::Label;
 
@@ -43,14 +43,14 @@ pub struct ParamInfo {
 impl ParamInfo {
     /// Whether the parameter is shown and can't be set.
     pub fn is_read_only(&self) -> bool
-        ensures { result ≡ has_flag 2 self.now }
+        ensures { result ≡ is_read_only self.now.flags }
     {
         self.flags & IS_READ_ONLY != 0
     }
 
     /// Whether the host may change the parameter over time.
     pub fn can_automate(&self) -> bool
-        ensures { result ≡ has_flag 1 self.now }
+        ensures { result ≡ is_automatable self.now.flags }
     {
         self.flags & CAN_AUTOMATE != 0
     }

@@ -7,7 +7,7 @@ use super::{
 use std::alloc::Global;
 use std::test::Fail;
 use vh_ids::Tuid;
-use vh_num::{Refusal, norm};
+use vh_num::{Refusal, norm, quant};
 
 /// A parameter, with units where it has steps.
 fn param(id: u32, steps: u32, first: u32, unit: u32) -> ParamInfo {
@@ -146,7 +146,9 @@ fn classes_and_nodes_are_found(rt: HostRuntime) -> Result<(), Fail> {
     assert_eq!(rt; copy.name(1).text(), b"tail_2".as_slice());
     assert_eq!(rt; copy.class_name(0).text(), b"delay".as_slice());
     assert_eq!(rt; copy.table(0).params().len(), 1);
-    assert_eq!(rt; copy.info(1, 4).map(|param| param.steps), Some(4095));
+    let time = copy.info(1, 4).expect(&rt, "the parameter of a node");
+    assert_eq!(rt; quant(time.first, time.steps), time.first);
+    assert_eq!(rt; time.steps, 4095);
     assert_eq!(rt; copy.info(1, 5), None);
     assert_eq!(rt; copy.info(2, 4), None);
     Ok(())
