@@ -147,9 +147,11 @@ impl Points {
         self.used = 0;
     }
 
-    /// The number of queues.
+    /// The number of queues. Of each parameter there is at most one, and its points rise: their offsets do,
+    /// no value stands twice running, and none is above 2^24.
     pub fn queues(&self) -> usize
-        ensures { result ≡ length (queues_of self.now) }
+        ensures count { result ≡ length (queues_of self.now) }
+        ensures lawful { AreLawful (queues_of self.now) }
     {
         self.count
     }
@@ -168,7 +170,8 @@ impl Points {
     pub fn point(&self, i: usize, j: usize) -> (u32, u32)
         requires queue { i < length (queues_of self.now) }
         requires point { j < length (queue_at (queues_of self.now) i).points }
-        ensures { result ≡ slice_index_or (queue_at (queues_of self.now) i).points j (0, 0) }
+        ensures point { result ≡ slice_index_or (queue_at (queues_of self.now) i).points j (0, 0) }
+        ensures within { result.1 ≤ 2 ^ 24 }
     {
         self.points[self.queues[i].start + j]
     }
