@@ -3,3 +3,5 @@ mod Bounds
 mod Sending
 mod Lawful
 mod Ramps
+mod Meaning
+mod Slopes

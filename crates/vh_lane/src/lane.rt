@@ -84,9 +84,9 @@ impl Lane {
     }
 
     /// Adds a point to the last queue, which is empty, at offset `s - from` for each sample s from `from` to
-    /// `to` - 1 whose value differs from the one before; before `from` it is `last`.
+    /// `to` - 1 whose value differs from the one before; before `from` it is `last`. Where `to` isn't above
+    /// `from` there is none. What these points mean is a law: [`points_mean_values`](crate::laws::points_mean_values).
     pub fn changes(&self, from: u32, to: u32, last: u32, q: usize, out: &mut Points)
-        requires range { from ≤ to }
         requires last { q + 1 ≡ length (queues_of out.old) }
         requires empty { (queue_at (queues_of out.old) q).points ≡ [] }
         requires room { to - from ≤ point_room out.old }

@@ -37,7 +37,9 @@ fn a_lane_follows_its_lines(rt: HostRuntime) -> Result<(), Fail> {
     assert_eq!(rt; falling.breaks(), &[(2, 10), (5, 0), (6, 7)][..]);
     assert_eq!(rt; rising.grain(), 20);
     laws::cut_in_two();
+    laws::points_mean_values();
     laws::is_grained();
+    laws::follows_lines();
     Ok(())
 }
 
@@ -53,6 +55,8 @@ fn changes_are_sent_where_the_value_differs(rt: HostRuntime) -> Result<(), Fail>
     assert_eq!(rt; points.point(0, 1), (10, ONE));
     points.clear();
     let q = points.add_queue(7);
+    lane.changes(12, 8, 0, q, &mut points);
+    assert_eq!(rt; points.queue(0), (7, 0));
     lane.changes(0, 8, 0, q, &mut points);
     assert_eq!(rt; points.queue(0), (7, 1));
     assert_eq!(rt; points.point(0, 0), (5, 8_388_608));

@@ -19,10 +19,12 @@ loop-s-preserved c =
         sent_more _ _ _ _ _ _ _ _ _ _ _ _ c.value_behind-value.result _ _ c.loop-s.invariant.0 passed c.value_behind-value.ensures.value w.if-value-before.true (omega (arith, c.requires.last)) w.add_point.ensures.added w.add_point.ensures.point_room,
         w.add_point.ensures.queue_room ∙ c.loop-s.invariant.1,
         w.add_point.ensures.most_points ∙ c.loop-s.invariant.2,
+        omega (arith, c.loop-s.invariant.0.range, c.loop-s-test.true),
       ))
       | else-value-before w ↦ rw w.out-is (rw w.before-is (
         sent_same _ _ _ _ _ _ _ _ _ _ _ _ c.value_behind-value.result c.loop-s.invariant.0 passed c.value_behind-value.ensures.value w.if-value-before.false,
         c.loop-s.invariant.1,
         c.loop-s.invariant.2,
+        omega (arith, c.loop-s.invariant.0.range, c.loop-s-test.true),
       ))
     ]
