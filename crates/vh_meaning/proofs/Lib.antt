@@ -4,3 +4,6 @@ mod Fitting
 mod Traces
 mod Touches
 mod Applying
+mod Lanes
+mod Wires
+mod Examples

@@ -59,7 +59,7 @@ arriving_alike (wire ∷ wires) input frames others node aux alike =
       | false ↦ λ is. rest
     ] refl
 
-by_parts : {A : Type 0} (f : State → List ℕ → Frame → Option Frame → A) (s s' : State) (v v' : List ℕ) (m m' : Frame) (a a' : Option Frame) → s ≡ s' → v ≡ v' → m ≡ m' → a ≡ a' → f s v m a ≡ f s' v' m' a'
+pub by_parts : {A : Type 0} (f : State → List ℕ → Frame → Option Frame → A) (s s' : State) (v v' : List ℕ) (m m' : Frame) (a a' : Option Frame) → s ≡ s' → v ≡ v' → m ≡ m' → a ≡ a' → f s v m a ≡ f s' v' m' a'
 by_parts f s s' v v' m m' a a' p q r t = ap (λ x. f x v m a) p ∙ ap (λ x. f s' x m a) q ∙ ap (λ x. f s' v' x a) r ∙ ap (λ x. f s' v' m' x) t
 
 -- states and values that are a node's own, and frames that are its sources'

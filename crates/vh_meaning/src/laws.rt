@@ -8,7 +8,14 @@ ghost use Rattle.vh_meaning.specs.Laws.{
   ValuesFromKept,
   OneSample,
   NoLater,
+  LaneWhileNoneOpen,
+  LastWithoutLane,
+  LaneWhileOpen,
+  OnlyItsParameter,
+  AnyOrderOfWires,
+  SilenceWithoutOut,
 };
+ghost use Rattle.vh_meaning.specs.Worked.{Worked};
 
 /// Frames that fit together are those of the recursion on the graph.
 pub fn frames_that_fit()
@@ -43,4 +50,40 @@ pub fn one_sample()
 /// A frame depends on no later input and on no later entry.
 pub fn no_later()
     ensures { NoLater }
+{}
+
+/// While no gesture is open, a parameter with a lane is the lane.
+pub fn lane_while_none_open()
+    ensures { LaneWhileNoneOpen }
+{}
+
+/// A parameter without a lane has the last value that it was given.
+pub fn last_without_lane()
+    ensures { LastWithoutLane }
+{}
+
+/// While a gesture is open, a parameter with a lane has what was performed last since the first of the gestures that
+/// overlap began, or the lane's value where that one began.
+pub fn lane_while_open()
+    ensures { LaneWhileOpen }
+{}
+
+/// An entry on one parameter changes no other's value.
+pub fn only_its_parameter()
+    ensures { OnlyItsParameter }
+{}
+
+/// The order of the wires doesn't matter.
+pub fn any_order_of_wires()
+    ensures { AnyOrderOfWires }
+{}
+
+/// Without a wire to the output a rendering is silence.
+pub fn silence_without_out()
+    ensures { SilenceWithoutOut }
+{}
+
+/// Two editors whose gestures overlap on a lane, a gesture that holds a lane still, and a message between two performs.
+pub fn worked()
+    ensures { Worked }
 {}
