@@ -91,7 +91,7 @@ before_one : (scene : Scene) (input : List Frame) (before : List Entry) (entry :
 before_one scene input before entry s le = world_ahead scene input before (entry ∷ []) s (All-push (λ (y : Entry). s ≤ y.sample) [] entry (All-nil (λ (y : Entry). s ≤ y.sample)) le)
 
 -- what is kept of entries up to a sample gives the values there
-values_stand : (scene : Scene) (standing : Standing) (s : ℕ) (before : List Entry) → ((node : ℕ) → node < node_count scene → standing.touches node ≡ touches_at scene before node) → All (λ x. x.sample ≤ s) before
+pub values_stand : (scene : Scene) (standing : Standing) (s : ℕ) (before : List Entry) → ((node : ℕ) → node < node_count scene → standing.touches node ≡ touches_at scene before node) → All (λ x. x.sample ≤ s) before
     → (node : ℕ) → node < node_count scene → values_in scene standing s node ≡ values_at scene before s node
 values_stand scene standing s before touches upto node within =
     ap (λ (l : List Touch). values_now scene node (params_at scene node) l s) (touches node within) ∙ values_kept scene before node s upto
@@ -141,7 +141,7 @@ all_applied scene standing s input before (entry ∷ entries) stands behind next
       nodes = All-tail (λ (x : Entry). IsToNode scene x.command) entry entries next.nodes;
     }))
 
-only_sample : (sample t s : ℕ) (command : Command) → message_sample sample command ≡ Some t → sample ≡ t
+pub only_sample : (sample t s : ℕ) (command : Command) → message_sample sample command ≡ Some t → sample ≡ t
 only_sample sample t s (Begin n id) is = absurd cc
 only_sample sample t s (Perform n id value) is = absurd cc
 only_sample sample t s (End n id) is = absurd cc

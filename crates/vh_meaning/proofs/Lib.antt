@@ -7,3 +7,4 @@ mod Applying
 mod Lanes
 mod Wires
 mod Examples
+mod Blocks

@@ -22,7 +22,7 @@ at_node In node is = absurd (true≢false (sym is))
 at_node Out node is = absurd (true≢false (sym is))
 at_node (AtNode other) node is = ap (λ (n : ℕ). AtNode n) (eqb-true other node is)
 
-brought_alike : (input : Frame) (frames others : ℕ → Frame) (from : End) → ((source : ℕ) → from ≡ AtNode source → frames source ≡ others source) → brought input frames from ≡ brought input others from
+pub brought_alike : (input : Frame) (frames others : ℕ → Frame) (from : End) → ((source : ℕ) → from ≡ AtNode source → frames source ≡ others source) → brought input frames from ≡ brought input others from
 brought_alike input frames others In alike = refl
 brought_alike input frames others Out alike = refl
 brought_alike input frames others (AtNode node) alike = alike node refl

@@ -9,4 +9,5 @@ pub mod Stands
 pub mod Steps
 pub mod Trace
 pub mod Laws
+pub mod Block
 pub mod Worked

@@ -15,6 +15,7 @@ ghost use Rattle.vh_meaning.specs.Laws.{
   AnyOrderOfWires,
   SilenceWithoutOut,
 };
+ghost use Rattle.vh_meaning.specs.Block.{StandsAtFirst, OneBlock, OutFromFrames, SeenFromKept, LastFromKept};
 ghost use Rattle.vh_meaning.specs.Worked.{Worked};
 
 /// Frames that fit together are those of the recursion on the graph.
@@ -45,6 +46,31 @@ pub fn values_from_kept()
 /// A sample's entries, applied one by one, and then a step of each node, carry what is kept to the next sample.
 pub fn one_sample()
     ensures { OneSample }
+{}
+
+/// Before the first sample the classes' starts and the first values stand for every input.
+pub fn stands_at_first()
+    ensures { StandsAtFirst }
+{}
+
+/// States and frames that form a trace over a block carry what is kept over it, and the frames are the world's.
+pub fn one_block()
+    ensures { OneBlock }
+{}
+
+/// What reaches the output hangs on the frames of the nodes alone.
+pub fn out_from_frames()
+    ensures { OutFromFrames }
+{}
+
+/// What is kept behind a sample shows what is seen there.
+pub fn seen_from_kept()
+    ensures { SeenFromKept }
+{}
+
+/// What is kept after the entries at the length shows what is seen at the end.
+pub fn last_from_kept()
+    ensures { LastFromKept }
 {}
 
 /// A frame depends on no later input and on no later entry.
