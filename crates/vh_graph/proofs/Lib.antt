@@ -14,3 +14,4 @@ mod Placed
 mod Turns
 mod Layered
 mod Refused
+mod Lower

@@ -1,6 +1,6 @@
 -- What the rules on the order come to.
 use Rattle.std.specs.Prelude.{◌≡◌, ◌↔◌, ◌<◌, ℕ, List, length, slice_index_or, Contains, All}
-use Rattle.vh_graph.specs.Paths.{sources_of, IsOnCycle}
+use Rattle.vh_graph.specs.Paths.{sources_of, IsOnCycle, AreLayers}
 use Rattle.vh_graph.specs.Order.{IsOrder}
 
 -- the two rules determine the order
@@ -17,3 +17,9 @@ EachAfterItsSources = (nodes : ℕ) (wires : List (ℕ × ℕ)) (order : List �
 abbrev pub OrderExactlyWithoutCycle : Type 0
 OrderExactlyWithoutCycle = (nodes : ℕ) (wires : List (ℕ × ℕ)) → All (λ wire. (wire.0 < nodes) × (wire.1 < nodes)) wires →
     ((order : List ℕ) × IsOrder nodes wires order) ↔ ((node : ℕ) → ¬ IsOnCycle wires node)
+
+-- a node's sources are in lower layers
+abbrev pub SourcesAreLower : Type 0
+SourcesAreLower = (wires : List (ℕ × ℕ)) (layers : List ℕ) → AreLayers wires layers →
+    (node source d : ℕ) → node < length layers → source < length layers → Contains (sources_of wires node) source →
+    slice_index_or layers source d < slice_index_or layers node d

@@ -36,6 +36,7 @@ fn order_layers_and_sources_of_graphs(rt: HostRuntime) -> Result<(), Fail> {
     laws::order_is_determined();
     laws::each_after_its_sources();
     laws::order_exactly_without_cycle();
+    laws::sources_are_lower();
     Ok(())
 }
 
