@@ -12,11 +12,11 @@ use Rattle.vh_params.specs.declared.param.ParamInfo.{ParamInfo}
 use Rattle.vh_params.specs.Nodes.{Node}
 use Rattle.vh_params.specs.Params.{AreRising}
 use Rattle.vh_text.specs.Lines.{lines_of}
-use Rattle.vh_text.specs.Tokens.{bad_byte}
+use Rattle.vh_text.specs.Tokens.{bad_byte, words_of}
 use Rattle.vh_session.specs.declared.fault.SessionKind.TheVariants.{BadHeader, BadByte, NoLine, TooLong}
 use Rattle.vh_session.specs.Entry.{Draft, Entry, no_draft, with_entry}
 use Rattle.vh_session.specs.Rules.{Checked, given, unless, is_within}
-use Rattle.vh_session.specs.Lines.{one, is_any, is_bits, line_of, line_of_words, words_of}
+use Rattle.vh_session.specs.Lines.{one, is_any, is_bits, line_of, line_of_words}
 use Rattle.vh_session.specs.Reading.{fault, is_skipped, with_line, after_line, lines_from, is_header, text_from, is_complete, session_limit, draft_of}
 use Rattle.vh_session.specs.Content.{presets_from, value_in, first_of, firsts_from, content_in, or_zero, node_wires}
 use Rattle.vh_session.specs.Keeps.{EachBehind, AreSizes, IsFile, ArePresets, can_set, is_earlier, IsFirstBehind, IsNodeBehind, IsSession, StandsUnder}

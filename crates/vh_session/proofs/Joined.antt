@@ -6,11 +6,11 @@ use Rattle.std.proofs.lemmas.Bool.{eqb-true, false_from_ne_true, and_from, le-le
 use Rattle.std.proofs.lemmas.List.{append_assoc}
 use Rattle.std.proofs.lemmas.List.Elements.{All-cons, All-tail, All-append}
 use Rattle.vh_text.specs.Lines.{parts_of, begin_with, without_return, lines_of}
-use Rattle.vh_text.specs.Tokens.{goes_on, bad_from, is_printable}
+use Rattle.vh_text.specs.Tokens.{goes_on, bad_from, is_printable, words_of}
 use Rattle.vh_params.specs.declared.class.ClassInfo.{ClassInfo}
 use Rattle.vh_session.specs.declared.fault.SessionKind.TheVariants.{BadByte}
 use Rattle.vh_session.specs.Entry.{Draft}
-use Rattle.vh_session.specs.Lines.{words_of, line_of, line_of_words}
+use Rattle.vh_session.specs.Lines.{line_of, line_of_words}
 use Rattle.vh_session.specs.Reading.{is_skipped, after_line, with_line}
 use Rattle.vh_session.specs.Rules.{unless}
 use Rattle.vh_session.specs.Text.{further_text, line_text, lines_text}

@@ -37,3 +37,5 @@ pub mod SectionSizes
 pub mod ReadsBack
 pub mod Printed
 pub mod Once
+pub mod Meaning
+pub mod Wired

@@ -5,8 +5,7 @@ use Rattle.std.specs.Option.{is_some}
 use Rattle.std.proofs.lemmas.Bool.{eqb-false, leb-true, and_parts}
 use Rattle.std.proofs.lemmas.List.Elements.{All-cons, All-tail}
 use Rattle.vh_text.specs.declared.token.Token.{Token}
-use Rattle.vh_text.specs.Tokens.{tokens_from, begin_at, goes_on, bad_byte, bad_from, is_printable}
-use Rattle.vh_session.specs.Lines.{words_of}
+use Rattle.vh_text.specs.Tokens.{tokens_from, begin_at, goes_on, bad_byte, bad_from, is_printable, words_of}
 use Rattle.vh_session.specs.Keeps.{IsWord}
 
 -- a byte at the front of the first word

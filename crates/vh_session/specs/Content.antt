@@ -1,5 +1,5 @@
 -- What a session is, as lists, and what lines come to.
-use Rattle.std.specs.Prelude.{ℕ, ◌+◌, ◌==◌, List, [], ◌∷◌, ◌++◌, if◌then◌else◌, Option, Some, None}
+use Rattle.std.specs.Prelude.{ℕ, ◌+◌, ◌==◌, Bool, not, ◌&&◌, List, [], ◌∷◌, ◌++◌, map, filter, if◌then◌else◌, Option, Some, None}
 use Rattle.std.specs.List.{filter_map}
 use Rattle.std.specs.Option.{option_map}
 use Rattle.vh_params.specs.declared.param.ParamInfo.{ParamInfo}
@@ -8,6 +8,7 @@ use Rattle.vh_session.specs.declared.wire.Wire.{Wire}
 use Rattle.vh_session.specs.declared.wire.End.{End}
 use Rattle.vh_session.specs.declared.wire.End.TheVariants.{In, Out, Node as AtNode}
 use Rattle.vh_session.specs.Entry.{ScriptWord, LaneText, Draft}
+use Rattle.vh_session.specs.Lines.{end_number}
 
 pub record Content : Type 0 where
   pub length : ℕ
@@ -75,3 +76,11 @@ between_nodes wire = ends wire.from wire.to
 
 abbrev pub node_wires : List Wire → List (ℕ × ℕ)
 node_wires wires = filter_map between_nodes wires
+
+-- whether a wire reaches the main bus of this end, or its aux bus
+abbrev pub reaches : End → Bool → Wire → Bool
+reaches to aux wire = (end_number wire.to == end_number to) && (if aux then wire.aux else not wire.aux)
+
+-- where the wires begin that reach a bus, in the wires' order
+abbrev pub sources_into : List Wire → End → Bool → List End
+sources_into wires to aux = map (λ wire. wire.from) (filter (reaches to aux) wires)

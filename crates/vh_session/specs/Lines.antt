@@ -3,7 +3,7 @@ use Rattle.std.specs.Prelude.{ℕ, ◌+◌, ◌-◌, ◌^◌, Bool, false, not, 
 use Rattle.std.specs.List.{list_any, slice_get}
 use Rattle.std.specs.Option.{is_some}
 use Rattle.std.specs.Str.{bytes_eq}
-use Rattle.vh_text.specs.Tokens.{tokens_of, bad_byte}
+use Rattle.vh_text.specs.Tokens.{bad_byte, words_of}
 use Rattle.vh_params.specs.declared.class.ClassInfo.{ClassInfo}
 use Rattle.vh_params.specs.Names.{is_name}
 use Rattle.vh_session.specs.declared.fault.SessionKind.TheVariants.{BadByte, UnknownWord, BadName, Repeated, DuplicateNode, BadWire, BadLane, BadEditor, TooMany}
@@ -252,10 +252,6 @@ line_of_word classes draft first words =
     (or_line (edits_line draft first words)
     (or_line (holds_line draft first words)
     (Err UnknownWord)))))
-
--- the words of a line
-abbrev pub words_of : List ℕ → List (List ℕ)
-words_of text = map (λ token. take (token.to - token.from) (drop token.from text)) (tokens_of text)
 
 abbrev pub line_of_words : List ClassInfo → Draft → List (List ℕ) → Checked Entry
 line_of_words classes draft [] = Err UnknownWord

@@ -5,8 +5,7 @@ use Rattle.std.specs.declared.alloc.Global.{Global}
 use Rattle.vh_num.specs.declared.refusal.Refusal.{Refusal}
 use Rattle.vh_num.specs.declared.refusal.Refusal.TheVariants.{Fault, Memory}
 use Rattle.vh_text.specs.declared.token.BadByte.{BadByte}
-use Rattle.vh_text.specs.Tokens.{bad_byte}
-use Rattle.vh_session.specs.Lines.{words_of}
+use Rattle.vh_text.specs.Tokens.{bad_byte, words_of}
 
 -- an answer by reference, as a value
 abbrev pub seen : {A K : Type 0} → Result (Bor A) K → Result A K

@@ -34,7 +34,11 @@ fn between_nodes(wire: &Wire) -> Option<(u32, u32)>
 }
 
 /// The wires between nodes.
-fn node_wires(alloc: Global, wires: &[Wire], nodes: u32) -> Result<Vec<(u32, u32)>, AllocError>
+pub(crate) fn node_wires(
+    alloc: Global,
+    wires: &[Wire],
+    nodes: u32,
+) -> Result<Vec<(u32, u32)>, AllocError>
     requires { All (λ wire. WireFits nodes wire) wires.now }
     ensures wires { IfOk result (λ between. between.items ≡ node_wires wires.now) }
     ensures within { IfOk result (λ between. All (λ wire. (wire.0 < nodes) × (wire.1 < nodes)) between.items) }

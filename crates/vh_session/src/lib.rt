@@ -17,7 +17,7 @@ mod wire;
 mod words;
 
 pub use fault::{SessionFault, SessionKind};
-pub use reader::{SESSION_LIMIT, read};
+pub use reader::{SESSION_LIMIT, first_preset, read};
 pub use session::Session;
 pub use wire::{End, Wire};
 

@@ -1,6 +1,7 @@
-use super::{SessionFault, SessionKind, read};
+use super::{End, SessionFault, SessionKind, first_preset, laws, read};
 use std::alloc::Global;
 use std::test::Fail;
+use vh_cut::pieces;
 use vh_ids::Tuid;
 use vh_num::Refusal;
 use vh_params::{
@@ -228,5 +229,29 @@ fn lanes_at_their_limit(rt: HostRuntime) -> Result<(), Fail> {
         };
         assert_eq!(rt; fault, Some(SessionFault { line: 326, kind }));
     }
+    Ok(())
+}
+
+#[test]
+fn wires_sizes_and_the_first_preset(rt: HostRuntime) -> Result<(), Fail> {
+    let alloc = rt.alloc();
+    let classes = classes(alloc)?;
+    let text =
+        b"vsthost session 1\n# preset e g\n\nlength 8\nchannels 1\nbits 16\npattern 3 2\nnode g gate\nnode e gate\n preset e f\nwire in g\nwire g e\nwire g e aux\nwire in e aux\nwire e out";
+    let session = read(alloc, text, &classes)?;
+    assert_eq!(rt;
+        session.node_wires(alloc)?.as_slice(),
+        &[(0, 1), (0, 1)][..]
+    );
+    let aux = session.sources(alloc, End::Node(1), true)?;
+    assert_eq!(rt; aux.as_slice(), &[End::Node(0), End::In][..]);
+    let out = session.sources(alloc, End::Out, false)?;
+    assert_eq!(rt; out.as_slice(), &[End::Node(1)][..]);
+    let blocks = pieces(session.length, session.block_sizes(), &[]);
+    assert_eq!(rt; blocks.count(), 3);
+    assert_eq!(rt; first_preset(text), Some(10));
+    assert_eq!(rt; first_preset(b"# preset\npresets e f"), None);
+    laws::printed_is_read();
+    laws::texts_have_one_meaning();
     Ok(())
 }

@@ -1,8 +1,7 @@
 //! The words of a line.
 
 ghost use Rattle.std.specs.Prelude.{◌≡◌, ◌<◌, ◌≤◌, ◌^◌, length, IfOk};
-ghost use Rattle.vh_text.specs.Tokens.{bad_byte, tokens_of};
-ghost use Rattle.vh_session.specs.Lines.{words_of};
+ghost use Rattle.vh_text.specs.Tokens.{bad_byte, tokens_of, words_of};
 ghost use Rattle.vh_session.specs.Seen.{texts, IsSplit};
 
 use std::alloc::{AllocError, Global};

@@ -1,9 +1,9 @@
 -- Words, one after the other.
-use Rattle.std.proofs.Common.{◌≡◌, ◌≢◌, ℕ, suc, ◌+◌, ◌<◌, true, false, not, cond, nat_eq, List, [], ◌∷◌, ◌++◌, sym, length, get_or, drop, refl, ap, ◌∙◌, arith}
+use Rattle.std.proofs.Common.{◌≡◌, ◌≢◌, ℕ, suc, ◌+◌, ◌<◌, true, false, not, cond, nat_eq, List, [], ◌∷◌, ◌++◌, sym, length, get_or, drop, take, map, ◌-◌, ◌≤◌, refl, ap, ◌∙◌, arith}
 use Rattle.std.proofs.lemmas.Bool.{ne_eqb}
-use Rattle.std.proofs.lemmas.List.{drop_more, drop-drop, append_assoc}
+use Rattle.std.proofs.lemmas.List.{drop_more, drop-drop, append_assoc, drop_all}
 use Rattle.vh_text.specs.declared.token.Token.{Token}
-use Rattle.vh_text.specs.Tokens.{tokens_from, begin_at, word_length}
+use Rattle.vh_text.specs.Tokens.{tokens_from, begin_at, word_length, tokens_of, first_word}
 
 -- the word that begins with this byte is the first
 pub word_is_first : (at b : ℕ) (bs : List ℕ) → nat_eq b 32 ≡ false → tokens_from at (b ∷ bs) ≡ record { from = at; to = at + suc (word_length bs) } ∷ tokens_from (at + suc (word_length bs)) (drop (word_length bs) bs)
@@ -41,3 +41,16 @@ word_told line at end told now within other is more so_far =
     ∙ append_assoc told (record { from = at; to = end } ∷ []) rest
     ∙ ap (λ (tokens : List Token). told ++ tokens) (sym (word_more line at end within other is))
     ∙ so_far
+
+-- the text of a token
+abbrev text_of : List ℕ → Token → List ℕ
+text_of line token = take (token.to - token.from) (drop token.from line)
+
+-- behind spaces the first word is the one that stands here
+pub word_here : (line : List ℕ) (at end : ℕ) → at < length line → get_or line at 0 ≢ 32 → end ≡ at + word_length (drop at line) → tokens_from at (drop at line) ≡ tokens_of line → take (end - at) (drop at line) ≡ first_word line
+word_here line at end within other is spaces =
+    sym (ap (λ (tokens : List Token). get_or (map (text_of line) tokens) 0 []) (sym spaces ∙ word_more line at end within other is))
+
+-- a line of spaces has none
+pub no_word : (line : List ℕ) → tokens_from (length line) (drop (length line) line) ≡ tokens_of line → first_word line ≡ []
+no_word line spaces = ap (λ (tokens : List Token). get_or (map (text_of line) tokens) 0 []) (sym spaces ∙ ap (λ (bs : List ℕ). tokens_from (length line) bs) (drop_all (length line) line (omega arith)))

@@ -1,5 +1,5 @@
 -- The words of a line.
-use Rattle.std.specs.Prelude.{◌≡◌, ℕ, suc, ◌+◌, Bool, false, not, ◌&&◌, ◌==◌, nat_le, List, [], ◌∷◌, Option, Some, None, Result, Ok, Err, Vec, if◌then◌else◌}
+use Rattle.std.specs.Prelude.{◌≡◌, ℕ, suc, ◌+◌, Bool, false, not, ◌&&◌, ◌==◌, nat_le, ◌-◌, List, [], ◌∷◌, map, take, drop, slice_index_or, Option, Some, None, Result, Ok, Err, Vec, if◌then◌else◌}
 use Rattle.vh_num.specs.declared.refusal.Refusal.{Refusal}
 use Rattle.vh_num.specs.declared.refusal.Refusal.TheVariants.{Fault, Memory}
 use Rattle.vh_text.specs.declared.token.Token.{Token}
@@ -42,6 +42,14 @@ tokens_from at (b ∷ bs) =
 
 abbrev pub tokens_of : List ℕ → List Token
 tokens_of line = tokens_from 0 line
+
+-- the words of a line, as texts
+abbrev pub words_of : List ℕ → List (List ℕ)
+words_of line = map (λ token. take (token.to - token.from) (drop token.from line)) (tokens_of line)
+
+-- the first of them, empty where there is none
+abbrev pub first_word : List ℕ → List ℕ
+first_word line = slice_index_or (words_of line) 0 []
 
 -- a line is told in tokens, or refused for its first bad byte
 abbrev pub IsTokenized : {A : Type 0} → List ℕ → Result (Vec Token A) (Refusal BadByte) → Type 0

@@ -7,7 +7,7 @@ mod token;
 
 pub use decimal::number;
 pub use lines::Lines;
-pub use token::{BadByte, Token, tokens};
+pub use token::{BadByte, Token, first_word, tokens};
 
 #[cfg(test)]
 mod tests;

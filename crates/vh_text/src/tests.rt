@@ -1,4 +1,4 @@
-use super::{BadByte, Lines, Token, number, tokens};
+use super::{BadByte, Lines, Token, first_word, number, tokens};
 use std::test::Fail;
 use vh_num::Refusal;
 
@@ -18,6 +18,7 @@ fn words_are_the_longest_runs(rt: HostRuntime) -> Result<(), Fail> {
     assert_eq!(rt; one.as_slice(), &[token(0, 2)][..]);
     assert_eq!(rt; tokens(alloc, b"")?.len(), 0);
     assert_eq!(rt; tokens(alloc, b"   ")?.len(), 0);
+    assert_eq!(rt; first_word(b"  wire  in"), b"wire".as_slice());
     Ok(())
 }
 

@@ -1,7 +1,7 @@
 //! The words of a line.
 
 ghost use Rattle.std.specs.Prelude.{◌≡◌, ◌<◌, ◌≤◌, ◌+◌, ◌^◌, length, drop, IfOk};
-ghost use Rattle.vh_text.specs.Tokens.{IsTokenized, bad_byte, tokens_of, word_length};
+ghost use Rattle.vh_text.specs.Tokens.{IsTokenized, bad_byte, tokens_of, word_length, first_word};
 
 use std::alloc::{AllocError, Global};
 use thiserror::Error;
@@ -33,6 +33,19 @@ pub fn tokens(alloc: Global, line: &[u8]) -> Result<Vec<Token>, Refusal<BadByte>
         Ok(tokens) => Ok(tokens),
         Err(AllocError) => Err(Refusal::Memory),
     }
+}
+
+/// The first word of a line, empty where there is none.
+#[tactic(auto, using(crate::proofs::Words::no_word, crate::proofs::Words::word_here))]
+pub fn first_word(line: &[u8]) -> &[u8]
+    ensures { result.now ≡ first_word line.now }
+{
+    for from in 0..line.len() {
+        if line[from] != b' ' {
+            return &line[from..end_of_word(line, from)];
+        }
+    }
+    &line[line.len()..]
 }
 
 /// The first byte that is no printable ASCII.
