@@ -1,6 +1,6 @@
 -- The count of the tests' class.
 use Rattle.std.proofs.Common.{◌≡◌, ℕ, zero, suc, ◌+◌, ◌-◌, ◌^◌, ◌<◌, min, List, [], ◌∷◌, pos, Option, ap, ◌∙◌, arith}
-use Rattle.vh_plugin.specs.Class.{Frame}
+use Rattle.vh_num.specs.Frames.{Frame}
 use Rattle.vh_plugin.specs.Runs.{run_state}
 use Rattle.plugin_example.specs.Switches.{switch, counted}
 

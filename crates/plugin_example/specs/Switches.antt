@@ -5,7 +5,9 @@ use Rattle.std.specs.Int.{w32, to_le_bytes, from_le_bytes}
 use Rattle.std.proofs.Common.{Bool, true, false, zero, suc, refl, ap, sym, subst, arith}
 use Rattle.std.proofs.lemmas.Bool.{le-leb, leb-true}
 use Rattle.std.proofs.lemmas.Nat.{from_le_bytes-to_le_bytes_4}
-use Rattle.vh_plugin.specs.Class.{Param, Class, State, Frame, IsLawful, AreValues, is_shown, writable_of}
+use Rattle.vh_num.specs.Frames.{Frame}
+use Rattle.vh_params.specs.Flags.{is_read_only}
+use Rattle.vh_plugin.specs.Class.{Param, Class, State, IsLawful, AreValues, writable_of}
 
 abbrev pub side : Param
 side = record { id = 3; steps = 0; first = 0; flags = 1 }
@@ -78,7 +80,7 @@ params_rise (suc i) (suc zero) d lt within = absurd (omega (arith, lt))
 params_rise i (suc (suc j)) d lt within = absurd (omega (arith, within))
 params_rise (suc i) zero d lt within = absurd (omega (arith, lt))
 
-starts_unlit : (i : ℕ) (d : Param) → i < 2 → is_shown (slice_index_or (side ∷ lamp ∷ []) i d) ≡ true → switch.shown switch.start (slice_index_or (side ∷ lamp ∷ []) i d).id ≡ (slice_index_or (side ∷ lamp ∷ []) i d).first
+starts_unlit : (i : ℕ) (d : Param) → i < 2 → is_read_only (slice_index_or (side ∷ lamp ∷ []) i d).flags ≡ true → switch.shown switch.start (slice_index_or (side ∷ lamp ∷ []) i d).id ≡ (slice_index_or (side ∷ lamp ∷ []) i d).first
 starts_unlit zero d lt shown = refl
 starts_unlit (suc zero) d lt shown = refl
 starts_unlit (suc (suc i)) d lt shown = absurd (omega (arith, lt))

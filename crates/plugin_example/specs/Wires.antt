@@ -6,7 +6,8 @@ use Rattle.vh_params.specs.declared.class.ClassInfo.{ClassInfo}
 use Rattle.vh_params.specs.declared.param.ParamInfo.{ParamInfo}
 use Rattle.vh_params.specs.Tables.{params_of}
 use Rattle.vh_params.specs.Short.{label_text}
-use Rattle.vh_plugin.specs.Class.{Param, Class, IsLawful, AreValues, is_shown, writable_of, has_writable}
+use Rattle.vh_params.specs.Flags.{is_read_only}
+use Rattle.vh_plugin.specs.Class.{Param, Class, IsLawful, AreValues, writable_of, has_writable}
 use Rattle.vh_plugin.specs.Blocks.{AreFor, values_behind}
 use Rattle.vh_points.specs.Queues.{Queue}
 use Rattle.vh_plugin.specs.Sets.{IsClassOf}
@@ -33,7 +34,7 @@ only : (value : ℕ) → value ≤ 2 ^ 24 → (i d : ℕ) → i < 1 → slice_in
 only value within zero d lt = within
 only value within (suc i) d lt = absurd (omega (arith, lt))
 
-one_shown : (i : ℕ) (d : Param) → i < 1 → is_shown (slice_index_or (level ∷ []) i d) ≡ true → wire.shown wire.start (slice_index_or (level ∷ []) i d).id ≡ (slice_index_or (level ∷ []) i d).first
+one_shown : (i : ℕ) (d : Param) → i < 1 → is_read_only (slice_index_or (level ∷ []) i d).flags ≡ true → wire.shown wire.start (slice_index_or (level ∷ []) i d).id ≡ (slice_index_or (level ∷ []) i d).first
 one_shown zero d lt shown = refl
 one_shown (suc i) d lt shown = absurd (omega (arith, lt))
 

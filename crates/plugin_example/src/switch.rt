@@ -288,6 +288,7 @@ impl PluginSet for Switches {
     ghost use Rattle.std.specs.Prelude.{ℕ};
     ghost use Rattle.vh_counted.specs.Held.{value_of_ended};
     ghost use Rattle.vh_plugin.specs.Counts.{raised, raised_by};
+    ghost use Rattle.vh_plugin.specs.ListLaws.{one_class_agrees};
 
     type P = Switch;
 
@@ -373,6 +374,8 @@ impl PluginSet for Switches {
     ghost components = { λ set. set.one };
 
     ghost controllers = { λ set. set.one };
+
+    ghost agreeing = { λ set class within. one_class_agrees (λ code. switch) (switch_code class) };
 }
 
 /// A set of the switch's class under this name.

@@ -200,6 +200,7 @@ impl PluginSet for Wires {
     ghost use Rattle.std.specs.Prelude.{ℕ};
     ghost use Rattle.vh_counted.specs.Held.{value_of_ended};
     ghost use Rattle.vh_plugin.specs.Counts.{raised, raised_by};
+    ghost use Rattle.vh_plugin.specs.ListLaws.{one_class_agrees};
 
     type P = Wire;
 
@@ -279,6 +280,8 @@ impl PluginSet for Wires {
     ghost components = { λ set. set.one };
 
     ghost controllers = { λ set. set.one };
+
+    ghost agreeing = { λ set class within. one_class_agrees (λ code. wire) (wire_code class) };
 }
 
 /// A set of the wire's class under this name.

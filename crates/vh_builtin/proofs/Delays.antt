@@ -1,7 +1,8 @@
 -- A delay over a stretch.
 use Rattle.std.proofs.Common.{◌≡◌, ℕ, zero, suc, List, [], ◌∷◌, ◌++◌, length, get_or, ℤ, pos, Option, refl, sym, ap, ap₂, ◌∙◌, arith}
 use Rattle.std.proofs.lemmas.List.{take_at, drop_at, length-take-le}
-use Rattle.vh_plugin.specs.Class.{State, Frame}
+use Rattle.vh_num.specs.Frames.{Frame}
+use Rattle.vh_plugin.specs.Class.{State}
 use Rattle.vh_plugin.specs.Runs.{mono, stereo, run_state, IsRun}
 use Rattle.vh_builtin.specs.Frames.{value, step}
 use Rattle.vh_builtin.specs.Delay.{delay, kept_of, delay_next, delay_frame, delayed_of, ago}

@@ -12,3 +12,5 @@ mod Names
 mod Sounding
 mod Mixes
 mod Delays
+mod Places
+mod Rowed

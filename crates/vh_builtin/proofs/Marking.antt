@@ -2,7 +2,7 @@
 use mir.Val.{to_z, of_z}
 use Rattle.std.proofs.Common.{w32, true, false, refl, ◌≡◌, ◌≢◌, ℕ, ◌+◌, ◌/◌, ◌≤◌, nat_le, [], ◌∷◌, Bool, ℤ, pos, List, set, get_or, ap, sym, ◌∙◌, arith}
 use Rattle.std.proofs.lemmas.List.{get_or-set_other}
-use Rattle.vh_plugin.specs.Class.{Frame}
+use Rattle.vh_num.specs.Frames.{Frame}
 use Rattle.vh_plugin.specs.Runs.{mono, stereo, aux_mono, aux_stereo}
 use Rattle.vh_builtin.specs.Gate.{is_loud, key_of}
 use Rattle.vh_builtin.specs.Frames.{loudest}

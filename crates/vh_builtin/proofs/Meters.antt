@@ -1,6 +1,7 @@
 -- The peaks of a stretch.
 use Rattle.std.proofs.Common.{◌≡◌, ℕ, zero, suc, List, [], ◌∷◌, ℤ, Option, refl, ap, ap₂, ◌∙◌}
-use Rattle.vh_plugin.specs.Class.{State, Frame}
+use Rattle.vh_num.specs.Frames.{Frame}
+use Rattle.vh_plugin.specs.Class.{State}
 use Rattle.vh_plugin.specs.Runs.{mono, stereo, run_state}
 use Rattle.vh_builtin.specs.Meter.{meter, peaks_of}
 use Rattle.vh_builtin.specs.Peaks.{peak_after}

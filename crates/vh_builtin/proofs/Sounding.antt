@@ -3,8 +3,9 @@ use Rattle.std.proofs.Common.{◌≡◌, ℕ, zero, suc, ◌+◌, ◌-◌, ◌*�
 use Rattle.std.proofs.lemmas.Int.{ints}
 use Rattle.std.proofs.lemmas.Bool.{ltb-true, ltb-false, lt-ltb, le-ltb, eq-eqb}
 use Rattle.std.proofs.lemmas.List.{take_at, length-replicate, get_or-take}
+use Rattle.vh_num.specs.Frames.{Frame}
 use Rattle.vh_num.specs.Samples.{clamp_of, floor_div}
-use Rattle.vh_plugin.specs.Class.{State, Frame}
+use Rattle.vh_plugin.specs.Class.{State}
 use Rattle.vh_plugin.specs.Runs.{mono, run_state, run_output}
 use Rattle.vh_builtin.specs.Frames.{value, step}
 use Rattle.vh_builtin.specs.Ranges.{IsSample, IsBetween}

@@ -1,6 +1,6 @@
 -- Classes without state.
 use Rattle.std.proofs.Common.{◌≡◌, ℕ, zero, suc, List, [], Option, refl}
-use Rattle.vh_plugin.specs.Class.{Frame}
+use Rattle.vh_num.specs.Frames.{Frame}
 use Rattle.vh_plugin.specs.Runs.{run_state}
 use Rattle.vh_builtin.specs.Gain.{gain}
 use Rattle.vh_builtin.specs.Balance.{balance}

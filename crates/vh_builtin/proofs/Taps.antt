@@ -1,6 +1,7 @@
 -- What a tap has seen after a stretch.
 use Rattle.std.proofs.Common.{◌≡◌, ℕ, zero, suc, ◌+◌, ◌-◌, ◌^◌, ◌<◌, min, List, [], ◌∷◌, ℤ, pos, Option, ap, ap₂, ◌∙◌, arith}
-use Rattle.vh_plugin.specs.Class.{State, Frame}
+use Rattle.vh_num.specs.Frames.{Frame}
+use Rattle.vh_plugin.specs.Class.{State}
 use Rattle.vh_plugin.specs.Runs.{mono, stereo, run_state}
 use Rattle.vh_builtin.specs.Tap.{tap, tap_next}
 use Rattle.vh_builtin.specs.Lasts.{last_after}

@@ -1,14 +1,19 @@
 -- balance: of two channels one is lowered.
-use Rattle.std.specs.Prelude.{ℕ, ◌-◌, ◌^◌, min, List, [], ◌∷◌, false, ℤ, pos, ◌*ℤ◌}
+use Rattle.std.specs.Prelude.{ℕ, ◌-◌, ◌^◌, min, List, [], ◌∷◌, false, ℤ, pos, ◌*ℤ◌, codes}
+use Rattle.vh_num.specs.Frames.{Frame}
 use Rattle.vh_num.specs.Samples.{floor_div}
-use Rattle.vh_plugin.specs.Class.{Param, Class, Frame}
+use Rattle.vh_plugin.specs.Class.{Param, Class}
 use Rattle.vh_builtin.specs.Frames.{value}
 use Rattle.vh_builtin.specs.Silent.{same_state, no_reply, nothing_shown}
-use Rattle.vh_builtin.specs.Bytes.{held_in, text_of}
+use Rattle.vh_builtin.specs.Rows.{Row, row, params_in}
+use Rattle.vh_builtin.specs.Bytes.{held_by, text_by}
 use Rattle.vh_builtin.specs.Partners.{partner_of}
 
+abbrev pub balance_rows : List Row
+balance_rows = row 0 (codes "Position") [] 0 8388608 0 1 ∷ []
+
 abbrev pub balance_params : List Param
-balance_params = record { id = 0; steps = 0; first = 8388608; flags = 1 } ∷ []
+balance_params = params_in balance_rows
 
 -- a sample times a share, at most 2^23, of it
 abbrev pub share_of : ℕ → ℤ → ℤ
@@ -35,7 +40,7 @@ balance = record {
   told = same_state;
   reply = no_reply;
   shown = nothing_shown;
-  state_of = held_in (0 ∷ []);
-  state_text = text_of (0 ∷ []);
+  state_of = held_by balance_params;
+  state_text = text_by balance_params;
   partner = partner_of 2;
 }

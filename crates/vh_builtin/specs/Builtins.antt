@@ -1,14 +1,15 @@
 -- The eight classes, by their numbers in the set.
 use Rattle.std.specs.Prelude.{ℕ, zero, suc, List, [], ◌∷◌}
 use Rattle.vh_plugin.specs.Class.{Class}
-use Rattle.vh_builtin.specs.Gain.{gain}
-use Rattle.vh_builtin.specs.Balance.{balance}
-use Rattle.vh_builtin.specs.Delay.{delay}
-use Rattle.vh_builtin.specs.OnePole.{onepole}
-use Rattle.vh_builtin.specs.Crusher.{crusher}
-use Rattle.vh_builtin.specs.Gate.{gate}
-use Rattle.vh_builtin.specs.Meter.{meter}
-use Rattle.vh_builtin.specs.Tap.{tap}
+use Rattle.vh_builtin.specs.Rows.{Row, UnitRow, root_unit, hold_unit}
+use Rattle.vh_builtin.specs.Gain.{gain, gain_rows}
+use Rattle.vh_builtin.specs.Balance.{balance, balance_rows}
+use Rattle.vh_builtin.specs.Delay.{delay, delay_rows}
+use Rattle.vh_builtin.specs.OnePole.{onepole, onepole_rows}
+use Rattle.vh_builtin.specs.Crusher.{crusher, crusher_rows}
+use Rattle.vh_builtin.specs.Gate.{gate, gate_rows}
+use Rattle.vh_builtin.specs.Meter.{meter, meter_rows}
+use Rattle.vh_builtin.specs.Tap.{tap, tap_rows}
 
 -- a code that is no class's number means the first class
 abbrev pub builtin : ℕ → Class
@@ -22,14 +23,19 @@ builtin (suc (suc (suc (suc (suc (suc zero)))))) = meter
 builtin (suc (suc (suc (suc (suc (suc (suc zero))))))) = tap
 builtin (suc (suc (suc (suc (suc (suc (suc (suc k)))))))) = gain
 
--- the ids of a class's writable parameters
-abbrev pub writable_ids : ℕ → List ℕ
-writable_ids zero = 0 ∷ 1 ∷ []
-writable_ids (suc zero) = 0 ∷ []
-writable_ids (suc (suc zero)) = 0 ∷ 1 ∷ 2 ∷ []
-writable_ids (suc (suc (suc zero))) = 0 ∷ []
-writable_ids (suc (suc (suc (suc zero)))) = 0 ∷ 1 ∷ []
-writable_ids (suc (suc (suc (suc (suc zero))))) = 0 ∷ 1 ∷ 2 ∷ []
-writable_ids (suc (suc (suc (suc (suc (suc zero)))))) = []
-writable_ids (suc (suc (suc (suc (suc (suc (suc zero))))))) = 0 ∷ []
-writable_ids (suc (suc (suc (suc (suc (suc (suc (suc k)))))))) = 0 ∷ 1 ∷ []
+-- and their tables
+abbrev pub class_rows : ℕ → List Row
+class_rows zero = gain_rows
+class_rows (suc zero) = balance_rows
+class_rows (suc (suc zero)) = delay_rows
+class_rows (suc (suc (suc zero))) = onepole_rows
+class_rows (suc (suc (suc (suc zero)))) = crusher_rows
+class_rows (suc (suc (suc (suc (suc zero))))) = gate_rows
+class_rows (suc (suc (suc (suc (suc (suc zero)))))) = meter_rows
+class_rows (suc (suc (suc (suc (suc (suc (suc zero))))))) = tap_rows
+class_rows (suc (suc (suc (suc (suc (suc (suc (suc k)))))))) = gain_rows
+
+-- the crusher's Hold has a unit of its own
+abbrev pub class_units : ℕ → List UnitRow
+class_units (suc (suc (suc (suc zero)))) = root_unit ∷ hold_unit ∷ []
+class_units k = root_unit ∷ []

@@ -25,7 +25,7 @@ length_pairs [] values long = refl
 length_pairs (id ∷ ids) [] long = absurd (omega (arith, long))
 length_pairs (id ∷ ids) (value ∷ values) long = let rest = length_pairs ids values (omega (arith, long)) in omega (arith, rest)
 
-all_rest : (x : ℕ) (xs : List ℕ) (n : ℕ) → All (λ k. k ≤ n) (x ∷ xs) → All (λ k. k ≤ n) xs
+pub all_rest : (x : ℕ) (xs : List ℕ) (n : ℕ) → All (λ k. k ≤ n) (x ∷ xs) → All (λ k. k ≤ n) xs
 all_rest x xs n are i d lt = are (suc i) d (omega (arith, lt))
 
 pairs_back : (ids values front : List ℕ) (at : ℕ) → length front ≡ at → length values ≡ length ids → All (λ id. id ≤ 2 ^ 24) ids → All (λ value. value ≤ 2 ^ 24) values → ArePairsOf ids values (front ++ pair_bytes ids values) at
@@ -74,11 +74,11 @@ both true true e = (refl, refl)
 both true false e = absurd (true≢false (sym e))
 both false b e = absurd (true≢false (sym e))
 
-all_more : (x : ℕ) (xs : List ℕ) (n : ℕ) → x ≤ n → All (λ k. k ≤ n) xs → All (λ k. k ≤ n) (x ∷ xs)
+pub all_more : (x : ℕ) (xs : List ℕ) (n : ℕ) → x ≤ n → All (λ k. k ≤ n) xs → All (λ k. k ≤ n) (x ∷ xs)
 all_more x xs n le are zero d lt = le
 all_more x xs n le are (suc i) d lt = are i d (omega (arith, lt))
 
-none_le : (n : ℕ) → All (λ k. k ≤ n) []
+pub none_le : (n : ℕ) → All (λ k. k ≤ n) []
 none_le n i d lt = absurd (omega (arith, lt))
 
 held_within : (ids bytes : List ℕ) (at : ℕ) → are_pairs ids bytes at ≡ true → All (λ value. value ≤ 2 ^ 24) (pair_values ids bytes at)

@@ -2,6 +2,8 @@
 -- id, each number in 4 bytes, the least first.
 use Rattle.std.specs.Prelude.{ℕ, ◌+◌, ◌/◌, ◌%◌, ◌^◌, Bool, ◌&&◌, ◌==◌, nat_le, List, [], ◌∷◌, ◌++◌, length, Option, Some, None, if◌then◌else◌}
 use Rattle.vh_files.specs.Fields.{field_at}
+use Rattle.vh_params.specs.Flags.{is_writable}
+use Rattle.vh_plugin.specs.Class.{Param, writable_of}
 
 abbrev pub word_bytes : ℕ → List ℕ
 word_bytes n = n % 256 ∷ n / 256 % 256 ∷ n / 65536 % 256 ∷ n / 16777216 % 256 ∷ []
@@ -37,3 +39,15 @@ is_form ids bytes = nat_le 4 (length bytes) && ((field_at bytes 0 4 == 1) && are
 -- the values that bytes hold
 abbrev pub held_in : List ℕ → List ℕ → Option (List ℕ)
 held_in ids bytes = if is_form ids bytes then Some (pair_values ids bytes 4) else None
+
+-- the ids of the parameters that can be set
+abbrev pub writable_ids : List Param → List ℕ
+writable_ids [] = []
+writable_ids (param ∷ params) = if is_writable param.flags then param.id ∷ writable_ids params else writable_ids params
+
+-- the bytes of the values, one for each of these parameters, and the values of the writable ones that bytes hold
+abbrev pub text_by : List Param → List ℕ → List ℕ
+text_by params values = text_of (writable_ids params) (writable_of params values)
+
+abbrev pub held_by : List Param → List ℕ → Option (List ℕ)
+held_by params = held_in (writable_ids params)

@@ -1,14 +1,22 @@
 -- crusher: a sample is held for some samples, and its low bits are cut off.
-use Rattle.std.specs.Prelude.{ℕ, zero, suc, ◌+◌, ◌-◌, ◌^◌, nat_lt, List, [], ◌∷◌, false, ℤ, pos, negsuc, ◌*ℤ◌, if◌then◌else◌}
+use Rattle.std.specs.Prelude.{ℕ, zero, suc, ◌+◌, ◌-◌, ◌^◌, nat_lt, List, [], ◌∷◌, false, ℤ, pos, negsuc, ◌*ℤ◌, if◌then◌else◌, codes}
+use Rattle.vh_num.specs.Frames.{Frame}
 use Rattle.vh_num.specs.Samples.{floor_div}
-use Rattle.vh_plugin.specs.Class.{Param, Class, State, Frame}
+use Rattle.vh_plugin.specs.Class.{Param, Class, State}
 use Rattle.vh_builtin.specs.Frames.{step}
 use Rattle.vh_builtin.specs.Silent.{same_state, no_reply, nothing_shown}
-use Rattle.vh_builtin.specs.Bytes.{held_in, text_of}
+use Rattle.vh_builtin.specs.Rows.{Row, row, params_in}
+use Rattle.vh_builtin.specs.Bytes.{held_by, text_by}
 use Rattle.vh_builtin.specs.Partners.{partner_of}
 
+abbrev pub crusher_rows : List Row
+crusher_rows =
+    row 0 (codes "Depth") [] 15 16777216 0 1
+    ∷ row 1 (codes "Hold") [] 63 0 1 1
+    ∷ []
+
 abbrev pub crusher_params : List Param
-crusher_params = record { id = 0; steps = 15; first = 16777216; flags = 1 } ∷ record { id = 1; steps = 63; first = 0; flags = 1 } ∷ []
+crusher_params = params_in crusher_rows
 
 -- what is held: the sample where the counter is 0, else what was held
 abbrev pub held_of : ℤ → ℤ → ℤ → ℤ
@@ -53,7 +61,7 @@ crusher = record {
   told = same_state;
   reply = no_reply;
   shown = nothing_shown;
-  state_of = held_in (0 ∷ 1 ∷ []);
-  state_text = text_of (0 ∷ 1 ∷ []);
+  state_of = held_by crusher_params;
+  state_text = text_by crusher_params;
   partner = partner_of 5;
 }

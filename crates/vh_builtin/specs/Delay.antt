@@ -1,14 +1,23 @@
 -- delay: each channel keeps the last 4,095 numbers u, and mixes the one of `time` samples ago to the sample.
-use Rattle.std.specs.Prelude.{ℕ, zero, suc, ◌-◌, ◌^◌, List, [], ◌∷◌, ◌++◌, take, drop, replicate, slice_index_or, false, ℤ, pos, ◌+ℤ◌, ◌*ℤ◌}
+use Rattle.std.specs.Prelude.{ℕ, zero, suc, ◌-◌, ◌^◌, List, [], ◌∷◌, ◌++◌, take, drop, replicate, slice_index_or, false, ℤ, pos, ◌+ℤ◌, ◌*ℤ◌, codes}
+use Rattle.vh_num.specs.Frames.{Frame}
 use Rattle.vh_num.specs.Samples.{clamp_of, floor_div}
-use Rattle.vh_plugin.specs.Class.{Param, Class, State, Frame}
+use Rattle.vh_plugin.specs.Class.{Param, Class, State}
 use Rattle.vh_builtin.specs.Frames.{value, step}
 use Rattle.vh_builtin.specs.Silent.{nothing_shown}
-use Rattle.vh_builtin.specs.Bytes.{held_in, text_of}
+use Rattle.vh_builtin.specs.Rows.{Row, row, params_in}
+use Rattle.vh_builtin.specs.Bytes.{held_by, text_by}
 use Rattle.vh_builtin.specs.Partners.{partner_of}
 
+abbrev pub delay_rows : List Row
+delay_rows =
+    row 0 (codes "Time") (codes "smp") 4095 0 0 1
+    ∷ row 1 (codes "Mix") [] 0 8388608 0 1
+    ∷ row 2 (codes "Feedback") [] 0 0 0 1
+    ∷ []
+
 abbrev pub delay_params : List Param
-delay_params = record { id = 0; steps = 4095; first = 0; flags = 1 } ∷ record { id = 1; steps = 0; first = 8388608; flags = 1 } ∷ record { id = 2; steps = 0; first = 0; flags = 1 } ∷ []
+delay_params = params_in delay_rows
 
 -- the number u of so many samples ago, the newest standing first, or the sample itself
 abbrev pub ago : ℕ → List ℤ → ℤ → ℤ
@@ -58,7 +67,7 @@ delay = record {
   told = delay_told;
   reply = delay_reply;
   shown = nothing_shown;
-  state_of = held_in (0 ∷ 1 ∷ 2 ∷ []);
-  state_text = text_of (0 ∷ 1 ∷ 2 ∷ []);
+  state_of = held_by delay_params;
+  state_text = text_by delay_params;
   partner = partner_of 3;
 }

@@ -2,13 +2,13 @@
 use Rattle.std.specs.Prelude.{ℕ, max, List, [], ◌∷◌, slice_index_or, ℤ, pos, negsuc, ◌+◌}
 use Rattle.vh_num.specs.Values.{index_of}
 
--- the value of a parameter, 0 to 2^24
+-- the value, 0 to 2^24, of the parameter at a place of the class's table
 abbrev pub value : List ℕ → ℕ → ℕ
-value values id = slice_index_or values id 0
+value values place = slice_index_or values place 0
 
--- the step of a parameter of step count n
+-- the step of the one of step count n at a place
 abbrev pub step : List ℕ → ℕ → ℕ → ℕ
-step values id n = index_of (value values id) n
+step values place n = index_of (value values place) n
 
 -- a sample without its sign
 abbrev pub magnitude : ℤ → ℕ

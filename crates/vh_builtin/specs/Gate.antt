@@ -1,13 +1,22 @@
 -- gate: what comes in passes while the key is loud, and for some samples after.
-use Rattle.std.specs.Prelude.{ℕ, ◌-◌, ◌/◌, Bool, ◌||◌, ◌==◌, nat_lt, nat_le, List, [], ◌∷◌, map, Option, Some, None, true, false, pos, negsuc, if◌then◌else◌}
-use Rattle.vh_plugin.specs.Class.{Param, Class, State, Frame}
+use Rattle.std.specs.Prelude.{ℕ, ◌-◌, ◌/◌, Bool, ◌||◌, ◌==◌, nat_lt, nat_le, List, [], ◌∷◌, map, Option, Some, None, true, false, pos, negsuc, if◌then◌else◌, codes}
+use Rattle.vh_num.specs.Frames.{Frame}
+use Rattle.vh_plugin.specs.Class.{Param, Class, State}
 use Rattle.vh_builtin.specs.Frames.{value, step, loudest}
 use Rattle.vh_builtin.specs.Silent.{same_state, no_reply, nothing_shown}
-use Rattle.vh_builtin.specs.Bytes.{held_in, text_of}
+use Rattle.vh_builtin.specs.Rows.{Row, row, params_in}
+use Rattle.vh_builtin.specs.Bytes.{held_by, text_by}
 use Rattle.vh_builtin.specs.Partners.{partner_of}
 
+abbrev pub gate_rows : List Row
+gate_rows =
+    row 0 (codes "Threshold") [] 0 0 0 1
+    ∷ row 1 (codes "Hold") (codes "smp") 4095 0 0 1
+    ∷ row 2 (codes "Bypass") [] 1 0 0 65537
+    ∷ []
+
 abbrev pub gate_params : List Param
-gate_params = record { id = 0; steps = 0; first = 0; flags = 1 } ∷ record { id = 1; steps = 4095; first = 0; flags = 1 } ∷ record { id = 2; steps = 1; first = 0; flags = 65537 } ∷ []
+gate_params = params_in gate_rows
 
 -- the aux frame where there is one, else the main frame
 abbrev pub key_of : Frame → Option Frame → Frame
@@ -42,7 +51,7 @@ gate = record {
   told = same_state;
   reply = no_reply;
   shown = nothing_shown;
-  state_of = held_in (0 ∷ 1 ∷ 2 ∷ []);
-  state_text = text_of (0 ∷ 1 ∷ 2 ∷ []);
+  state_of = held_by gate_params;
+  state_text = text_by gate_params;
   partner = partner_of 6;
 }

@@ -1,10 +1,11 @@
 -- The built-in classes keep to the rules of classes.
-use Rattle.std.specs.Prelude.{◌≡◌, ℕ, ◌^◌, ◌<◌, ◌≤◌, Bool, true, false, ◌&&◌, nat_lt, List, [], ◌∷◌, length, not, Option, Some, All, slice_index_or}
+use Rattle.std.specs.Prelude.{◌≡◌, ℕ, ◌^◌, ◌<◌, ◌≤◌, Bool, true, false, ◌&&◌, nat_lt, nat_le, List, [], ◌∷◌, length, not, Option, All, slice_index_or, if◌then◌else◌}
 use Rattle.std.proofs.Common.{zero, suc, refl, sym, ap, ◌∙◌, arith}
-use Rattle.std.proofs.lemmas.Bool.{ltb-true, true≢false}
-use Rattle.vh_plugin.specs.Class.{Param, Class, State, IsLawful, is_shown, is_writable, writable_of, firsts_of}
-use Rattle.vh_builtin.specs.Bytes.{text_of, held_in}
-use Rattle.vh_builtin.specs.ByteLaws.{text_held, length_text, held_values}
+use Rattle.std.proofs.lemmas.Bool.{ltb-true, leb-true, true≢false}
+use Rattle.vh_params.specs.Flags.{is_read_only, is_writable}
+use Rattle.vh_plugin.specs.Class.{Param, Class, State, IsLawful, writable_of, firsts_of}
+use Rattle.vh_builtin.specs.Bytes.{held_in, held_by, text_by, writable_ids}
+use Rattle.vh_builtin.specs.ByteLaws.{text_held, length_text, held_values, all_rest, all_more, none_le}
 use Rattle.vh_builtin.specs.Builtins.{builtin}
 use Rattle.vh_builtin.specs.Gain.{gain}
 use Rattle.vh_builtin.specs.Balance.{balance}
@@ -46,63 +47,88 @@ all_rise (p ∷ ps) e zero (suc j) d lt within = first_below p ps e j d (omega (
 all_rise (p ∷ ps) e (suc i) zero d lt within = absurd (omega (arith, lt))
 all_rise (p ∷ ps) e (suc i) (suc j) d lt within = all_rise ps (rises_rest p ps e) i j d (omega (arith, lt)) (omega (arith, within))
 
--- all parameters can be set
-abbrev pub writes : List Param → Bool
-writes [] = true
-writes (param ∷ params) = is_writable param && writes params
+-- the values of the parameters that can be set are one for each of their ids, and no greater than all values
+pub length_written : (params : List Param) (values : List ℕ) → length values ≡ length params → length (writable_of params values) ≡ length (writable_ids params)
+length_written [] values long = refl
+length_written (param ∷ params) [] long = absurd (omega (arith, long))
+length_written (param ∷ params) (value ∷ values) long =
+    let rest = length_written params values (omega (arith, long)) in
+    elim (is_writable param.flags) as (λ t. length (if t then value ∷ writable_of params values else writable_of params values) ≡ length (if t then param.id ∷ writable_ids params else writable_ids params)) [
+      | true ↦ ap (λ n. suc n) rest
+      | false ↦ rest
+    ]
 
-not_shown : (p : Param) → is_writable p ≡ true → is_shown p ≡ true → ⊥
-not_shown p e f = true≢false (sym f ∙ ap (λ t. not t) e)
+within_written : (params : List Param) (values : List ℕ) (most : ℕ) → All (λ value. value ≤ most) values → All (λ value. value ≤ most) (writable_of params values)
+within_written [] values most are = none_le most
+within_written (param ∷ params) [] most are = none_le most
+within_written (param ∷ params) (value ∷ values) most are =
+    let rest = within_written params values most (all_rest value values most are) in
+    elim (is_writable param.flags) as (λ t. All (λ value. value ≤ most) (if t then value ∷ writable_of params values else writable_of params values)) [
+      | true ↦ all_more value (writable_of params values) most (are 0 0 (omega arith)) rest
+      | false ↦ rest
+    ]
 
-pub all_written : (params : List Param) (values : List ℕ) → writes params ≡ true → length values ≡ length params → writable_of params values ≡ values
-all_written [] [] e long = refl
-all_written [] (value ∷ values) e long = absurd (omega (arith, long))
-all_written (param ∷ params) [] e long = absurd (omega (arith, long))
-all_written (param ∷ params) (value ∷ values) e long =
-    let two = both (is_writable param) (writes params) e in
-    rw two.0 (ap (λ (vs : List ℕ). value ∷ vs) (all_written params values two.1 (omega (arith, long))))
-
-none_shown : (class : Class) (params : List Param) → writes params ≡ true → All (λ param. is_shown param ≡ true → class.shown class.start param.id ≡ param.first) params
-none_shown class [] e i d lt shown = absurd (omega (arith, lt))
-none_shown class (param ∷ params) e zero d lt shown = absurd (not_shown param (both (is_writable param) (writes params) e).0 shown)
-none_shown class (param ∷ params) e (suc i) d lt shown = none_shown class params (both (is_writable param) (writes params) e).1 i d (omega (arith, lt)) shown
+pub fewer_ids : (params : List Param) → length (writable_ids params) ≤ length params
+fewer_ids [] = omega arith
+fewer_ids (param ∷ params) =
+    let rest = fewer_ids params in
+    elim (is_writable param.flags) as (λ t. length (if t then param.id ∷ writable_ids params else writable_ids params) ≤ suc (length params)) [
+      | true ↦ omega (arith, rest)
+      | false ↦ omega (arith, rest)
+    ]
 
 length_firsts : (params : List Param) → length (firsts_of params) ≡ length params
 length_firsts [] = refl
 length_firsts (param ∷ params) = ap (λ n. suc n) (length_firsts params)
 
-one_small : All (λ id. id ≤ 2 ^ 24) (0 ∷ [])
-one_small zero d lt = omega arith
-one_small (suc i) d lt = absurd (omega (arith, lt))
+-- no number of a list passes another
+abbrev pub none_over : ℕ → List ℕ → Bool
+none_over most [] = true
+none_over most (n ∷ ns) = nat_le n most && none_over most ns
 
-two_small : All (λ id. id ≤ 2 ^ 24) (0 ∷ 1 ∷ [])
-two_small zero d lt = omega arith
-two_small (suc zero) d lt = omega arith
-two_small (suc (suc i)) d lt = absurd (omega (arith, lt))
+all_under : (most : ℕ) (ns : List ℕ) → none_over most ns ≡ true → All (λ n. n ≤ most) ns
+all_under most [] e = none_le most
+all_under most (n ∷ ns) e = let two = both (nat_le n most) (none_over most ns) e in all_more n ns most (leb-true n most two.0) (all_under most ns two.1)
 
-three_small : All (λ id. id ≤ 2 ^ 24) (0 ∷ 1 ∷ 2 ∷ [])
-three_small zero d lt = omega arith
-three_small (suc zero) d lt = omega arith
-three_small (suc (suc zero)) d lt = omega arith
-three_small (suc (suc (suc i))) d lt = absurd (omega (arith, lt))
+-- a class whose state bytes go by its table
+lawful : (class : Class) → rises class.params ≡ true → nat_le (length class.params) 64 ≡ true → none_over (2 ^ 24) (writable_ids class.params) ≡ true
+    → class.state_of ≡ held_by class.params → class.state_text ≡ text_by class.params
+    → All (λ param. is_read_only param.flags ≡ true → class.shown class.start param.id ≡ param.first) class.params
+    → ((state : State) (values words : List ℕ) → length (class.reply state values words) ≤ 4) → length class.partner ≡ 16 → IsLawful class
+lawful class up few small is_held is_text starts replies partner =
+    let ids = writable_ids class.params in
+    let most : length class.params ≤ 64 = leb-true (length class.params) 64 few in
+    let fewer = fewer_ids class.params in
+    record {
+      rising = all_rise class.params up;
+      few = most;
+      starts = starts;
+      held = λ bytes values e.
+          let two = held_values ids bytes values (sym (ap (λ (f : List ℕ → Option (List ℕ)). f bytes) is_held) ∙ e) in
+          (two.0 ∙ sym (length_written class.params (firsts_of class.params) (length_firsts class.params)), two.1);
+      reads_back = λ values are.
+          ap (λ (f : List ℕ → Option (List ℕ)). f (class.state_text values)) is_held ∙ ap (λ (f : List ℕ → List ℕ). held_in ids (f values)) is_text
+          ∙ text_held ids (writable_of class.params values) (length_written class.params values are.each) (all_under (2 ^ 24) ids small) (within_written class.params values (2 ^ 24) are.within);
+      short = λ values are. (let e = ap (λ (f : List ℕ → List ℕ). length (f values)) is_text in let f = length_text ids (writable_of class.params values) (length_written class.params values are.each) in omega (arith, e, f, fewer, most));
+      replies = λ state values words most. replies state values words;
+      partner = partner;
+    }
 
--- a class all of whose parameters can be set
-all_lawful : (class : Class) (ids : List ℕ) → rises class.params ≡ true → writes class.params ≡ true → length class.params ≡ length ids → length ids ≤ 3 → All (λ id. id ≤ 2 ^ 24) ids
-    → class.state_of ≡ held_in ids → class.state_text ≡ text_of ids → ((state : State) (values words : List ℕ) → length (class.reply state values words) ≤ 4) → length class.partner ≡ 16 → IsLawful class
-all_lawful class ids up all same few small is_held is_text replies partner = record {
-  rising = all_rise class.params up;
-  few = omega (arith, same, few);
-  starts = none_shown class class.params all;
-  held = λ bytes values e.
-      let two = held_values ids bytes values (sym (ap (λ (f : List ℕ → Option (List ℕ)). f bytes) is_held) ∙ e) in
-      (two.0 ∙ sym same ∙ sym (ap (λ (vs : List ℕ). length vs) (all_written class.params (firsts_of class.params) all (length_firsts class.params)) ∙ length_firsts class.params), two.1);
-  reads_back = λ values are.
-      ap (λ (f : List ℕ → Option (List ℕ)). f (class.state_text values)) is_held ∙ ap (λ (f : List ℕ → List ℕ). held_in ids (f values)) is_text
-      ∙ text_held ids values (are.each ∙ same) small are.within ∙ ap (λ (vs : List ℕ). Some vs) (sym (all_written class.params values all are.each));
-  short = λ values are. (let e = ap (λ (f : List ℕ → List ℕ). length (f values)) is_text in let f = length_text ids values (are.each ∙ same) in omega (arith, e, f, few));
-  replies = λ state values words most. replies state values words;
-  partner = partner;
-}
+-- of a class all of whose parameters can be set none is only shown
+abbrev pub writes : List Param → Bool
+writes [] = true
+writes (param ∷ params) = is_writable param.flags && writes params
+
+not_shown : (p : Param) → is_writable p.flags ≡ true → is_read_only p.flags ≡ true → ⊥
+not_shown p e f = true≢false (sym f ∙ ap (λ t. not t) e)
+
+all_writable : (params : List Param) → writes params ≡ true → (i : ℕ) (d : Param) → i < length params → is_writable (slice_index_or params i d).flags ≡ true
+all_writable [] e i d lt = absurd (omega (arith, lt))
+all_writable (param ∷ params) e zero d lt = (both (is_writable param.flags) (writes params) e).0
+all_writable (param ∷ params) e (suc i) d lt = all_writable params (both (is_writable param.flags) (writes params) e).1 i d (omega (arith, lt))
+
+none_shown : (class : Class) (params : List Param) → writes params ≡ true → All (λ param. is_read_only param.flags ≡ true → class.shown class.start param.id ≡ param.first) params
+none_shown class params e i d lt shown = absurd (not_shown (slice_index_or params i d) (all_writable params e i d lt) shown)
 
 no_words : (state : State) (values words : List ℕ) → 0 ≤ 4
 no_words state values words = omega arith
@@ -139,38 +165,24 @@ tap_words (seen ∷ left ∷ right ∷ []) values (suc (suc zero) ∷ word ∷ w
 tap_words (seen ∷ left ∷ right ∷ []) values (suc (suc (suc n)) ∷ words) = omega arith
 
 -- the meter's parameters are only shown
-meter_starts : All (λ param. is_shown param ≡ true → meter.shown meter.start param.id ≡ param.first) meter_params
+meter_starts : All (λ param. is_read_only param.flags ≡ true → meter.shown meter.start param.id ≡ param.first) meter_params
 meter_starts zero d lt shown = refl
 meter_starts (suc zero) d lt shown = refl
 meter_starts (suc (suc i)) d lt shown = absurd (omega (arith, lt))
 
-none_written : (values : List ℕ) → length values ≡ 2 → writable_of meter_params values ≡ []
-none_written [] long = refl
-none_written (left ∷ []) long = refl
-none_written (left ∷ right ∷ values) long = refl
-
 meter_lawful : IsLawful meter
-meter_lawful = record {
-  rising = all_rise meter_params refl;
-  few = omega arith;
-  starts = meter_starts;
-  held = λ bytes values e. held_values [] bytes values e;
-  reads_back = λ values are. ap (λ (vs : List ℕ). Some vs) (sym (none_written values are.each));
-  short = λ values are. omega arith;
-  replies = λ state values words most. meter_words state values words;
-  partner = refl;
-}
+meter_lawful = lawful meter refl refl refl refl refl meter_starts meter_words refl
 
 gain_lawful : IsLawful gain
-gain_lawful = all_lawful gain (0 ∷ 1 ∷ []) refl refl refl (omega arith) two_small refl refl no_words refl
+gain_lawful = lawful gain refl refl refl refl refl (none_shown gain gain.params refl) no_words refl
 
 pub builtin_lawful : (code : ℕ) → IsLawful (builtin code)
 builtin_lawful zero = gain_lawful
-builtin_lawful (suc zero) = all_lawful balance (0 ∷ []) refl refl refl (omega arith) one_small refl refl no_words refl
-builtin_lawful (suc (suc zero)) = all_lawful delay (0 ∷ 1 ∷ 2 ∷ []) refl refl refl (omega arith) three_small refl refl delay_words refl
-builtin_lawful (suc (suc (suc zero))) = all_lawful onepole (0 ∷ []) refl refl refl (omega arith) one_small refl refl no_words refl
-builtin_lawful (suc (suc (suc (suc zero)))) = all_lawful crusher (0 ∷ 1 ∷ []) refl refl refl (omega arith) two_small refl refl no_words refl
-builtin_lawful (suc (suc (suc (suc (suc zero))))) = all_lawful gate (0 ∷ 1 ∷ 2 ∷ []) refl refl refl (omega arith) three_small refl refl no_words refl
+builtin_lawful (suc zero) = lawful balance refl refl refl refl refl (none_shown balance balance.params refl) no_words refl
+builtin_lawful (suc (suc zero)) = lawful delay refl refl refl refl refl (none_shown delay delay.params refl) delay_words refl
+builtin_lawful (suc (suc (suc zero))) = lawful onepole refl refl refl refl refl (none_shown onepole onepole.params refl) no_words refl
+builtin_lawful (suc (suc (suc (suc zero)))) = lawful crusher refl refl refl refl refl (none_shown crusher crusher.params refl) no_words refl
+builtin_lawful (suc (suc (suc (suc (suc zero))))) = lawful gate refl refl refl refl refl (none_shown gate gate.params refl) no_words refl
 builtin_lawful (suc (suc (suc (suc (suc (suc zero)))))) = meter_lawful
-builtin_lawful (suc (suc (suc (suc (suc (suc (suc zero))))))) = all_lawful tap (0 ∷ []) refl refl refl (omega arith) one_small refl refl tap_words refl
+builtin_lawful (suc (suc (suc (suc (suc (suc (suc zero))))))) = lawful tap refl refl refl refl refl (none_shown tap tap.params refl) tap_words refl
 builtin_lawful (suc (suc (suc (suc (suc (suc (suc (suc k)))))))) = gain_lawful

@@ -1,6 +1,7 @@
 -- Laws about the sound of the built-in classes.
 use Rattle.std.specs.Prelude.{◌≡◌, ℕ, ◌-◌, ◌^◌, ◌<◌, ◌≤◌, nat_lt, List, [], ◌∷◌, length, slice_index_or, All, Option, ℤ, pos, if◌then◌else◌}
-use Rattle.vh_plugin.specs.Class.{State, Frame}
+use Rattle.vh_num.specs.Frames.{Frame}
+use Rattle.vh_plugin.specs.Class.{State}
 use Rattle.vh_plugin.specs.Runs.{mono, run_output}
 use Rattle.vh_builtin.specs.Frames.{value, step}
 use Rattle.vh_builtin.specs.Ranges.{IsSample, IsBetween}

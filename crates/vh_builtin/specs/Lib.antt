@@ -2,6 +2,7 @@ pub mod Frames
 pub mod Ranges
 pub mod Each
 pub mod Silent
+pub mod Rows
 pub mod Bytes
 pub mod Partners
 pub mod Gain
@@ -23,6 +24,7 @@ pub mod Rests
 pub mod Held
 pub mod Modes
 pub mod Infos
+pub mod Places
 pub mod Marks
 pub mod Members
 pub mod Laws

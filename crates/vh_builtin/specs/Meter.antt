@@ -1,12 +1,20 @@
 -- meter: what comes in goes out, and each channel's peak is shown.
-use Rattle.std.specs.Prelude.{ℕ, zero, suc, ◌*◌, min, max, List, [], ◌∷◌, false, ℤ, pos, negsuc}
-use Rattle.vh_plugin.specs.Class.{Param, Class, State, Frame}
+use Rattle.std.specs.Prelude.{ℕ, zero, suc, ◌*◌, min, max, List, [], ◌∷◌, false, ℤ, pos, negsuc, codes}
+use Rattle.vh_num.specs.Frames.{Frame}
+use Rattle.vh_plugin.specs.Class.{Param, Class, State}
 use Rattle.vh_builtin.specs.Frames.{magnitude}
-use Rattle.vh_builtin.specs.Bytes.{held_in, text_of}
+use Rattle.vh_builtin.specs.Rows.{Row, row, params_in}
+use Rattle.vh_builtin.specs.Bytes.{held_by, text_by}
 use Rattle.vh_builtin.specs.Partners.{partner_of}
 
+abbrev pub meter_rows : List Row
+meter_rows =
+    row 0 (codes "Peak left") [] 0 0 0 2
+    ∷ row 1 (codes "Peak right") [] 0 0 0 2
+    ∷ []
+
 abbrev pub meter_params : List Param
-meter_params = record { id = 0; steps = 0; first = 0; flags = 2 } ∷ record { id = 1; steps = 0; first = 0; flags = 2 } ∷ []
+meter_params = params_in meter_rows
 
 -- the peak, at most full scale
 abbrev pub peak_of : ℤ → ℤ → ℤ
@@ -47,7 +55,7 @@ meter = record {
   told = meter_told;
   reply = meter_reply;
   shown = meter_shown;
-  state_of = held_in [];
-  state_text = text_of [];
+  state_of = held_by meter_params;
+  state_text = text_by meter_params;
   partner = partner_of 7;
 }

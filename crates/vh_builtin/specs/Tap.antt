@@ -1,13 +1,18 @@
 -- tap: what comes in goes out; it counts its frames and keeps the last one.
-use Rattle.std.specs.Prelude.{ℕ, zero, suc, ◌+◌, ◌-◌, ◌^◌, min, List, [], ◌∷◌, false, ℤ, pos, negsuc}
-use Rattle.vh_plugin.specs.Class.{Param, Class, State, Frame}
+use Rattle.std.specs.Prelude.{ℕ, zero, suc, ◌+◌, ◌-◌, ◌^◌, min, List, [], ◌∷◌, false, ℤ, pos, negsuc, codes}
+use Rattle.vh_num.specs.Frames.{Frame}
+use Rattle.vh_plugin.specs.Class.{Param, Class, State}
 use Rattle.vh_builtin.specs.Frames.{value}
 use Rattle.vh_builtin.specs.Silent.{same_state, nothing_shown}
-use Rattle.vh_builtin.specs.Bytes.{held_in, text_of}
+use Rattle.vh_builtin.specs.Rows.{Row, row, params_in}
+use Rattle.vh_builtin.specs.Bytes.{held_by, text_by}
 use Rattle.vh_builtin.specs.Partners.{partner_of}
 
+abbrev pub tap_rows : List Row
+tap_rows = row 0 (codes "Marker") [] 0 0 0 1 ∷ []
+
 abbrev pub tap_params : List Param
-tap_params = record { id = 0; steps = 0; first = 0; flags = 1 } ∷ []
+tap_params = params_in tap_rows
 
 -- the last frame; the right sample of one channel stays
 abbrev pub last_of : State → Frame → State
@@ -43,7 +48,7 @@ tap = record {
   told = same_state;
   reply = tap_reply;
   shown = nothing_shown;
-  state_of = held_in (0 ∷ []);
-  state_text = text_of (0 ∷ []);
+  state_of = held_by tap_params;
+  state_text = text_by tap_params;
   partner = partner_of 8;
 }

@@ -3,12 +3,12 @@
 ghost use Rattle.std.specs.Prelude.{◌≡◌, length, IfOk};
 ghost use Rattle.vh_component.specs.declared.setup.Phase.TheVariants.{Created};
 ghost use Rattle.vh_plugin.specs.Class.{AreValues, firsts_of, IsSet};
-ghost use Rattle.vh_builtin.specs.Builtins.{builtin, writable_ids};
+ghost use Rattle.vh_builtin.specs.Builtins.{builtin};
 ghost use Rattle.vh_builtin.specs.Kinds.{kind_number};
 ghost use Rattle.vh_builtin.specs.Sounds.{sound_number, sound_state};
 
 use crate::bytes::{take_held, text_of};
-use crate::kind::{IDS, Kind};
+use crate::kind::Kind;
 use crate::sound::Sound;
 use std::alloc::{AllocError, Global};
 use vh_component::{Life, Phase, Setup};
@@ -41,7 +41,16 @@ pub fn set_values(kind: Kind, bytes: &[u8], values: &mut [u32]) -> bool
     ensures set { IsSet (builtin (kind_number kind)) bytes.now values.old values.new result }
     ensures valued { AreValues (builtin (kind_number kind)).params values.new }
 {
-    take_held(&IDS[..kind.writable()], bytes, values)
+    take_held(kind.writable(), bytes, values)
+}
+
+/// The bytes that hold the values of a kind's writable parameters.
+#[tactic(auto, using(crate::specs::Held::text_is))]
+fn bytes_of(alloc: Global, kind: Kind, values: &[u32]) -> Result<Vec<u8>, AllocError>
+    requires { AreValues (builtin (kind_number kind)).params values.now }
+    ensures { IfOk result (λ bytes. bytes.items ≡ (builtin (kind_number kind)).state_text values.now) }
+{
+    text_of(alloc, kind.writable(), values)
 }
 
 /// A component of one of the built-in classes.
@@ -144,7 +153,7 @@ impl Processor for Component {
     }
 
     fn state(&self, alloc: Global) -> Result<Vec<u8>, AllocError> {
-        text_of(alloc, &IDS[..self.sound.kind().writable()], &self.values)
+        bytes_of(alloc, self.sound.kind(), &self.values)
     }
 
     fn set_first(&mut self, given: &[u32]) {

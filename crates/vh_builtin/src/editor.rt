@@ -1,10 +1,12 @@
 //! Controllers of the built-in classes.
 
-ghost use Rattle.std.specs.Prelude.{◌≡◌, ◌≤◌, IfOk};
+ghost use Rattle.std.specs.Prelude.{◌≡◌, ◌≤◌, ◌^◌, IfOk, length, true};
 ghost use Rattle.vh_plugin.specs.Class.{AreValues, firsts_of};
+ghost use Rattle.vh_plugin.specs.Controls.{has_id, value_in, normalized_to};
 ghost use Rattle.vh_builtin.specs.Builtins.{builtin};
 ghost use Rattle.vh_builtin.specs.Kinds.{kind_number};
 ghost use Rattle.vh_builtin.specs.Modes.{IsModeIn};
+ghost use Rattle.vh_builtin.specs.Places.{IsPlaceOf};
 
 use crate::component::{defaults, set_values};
 use crate::kind::Kind;
@@ -33,6 +35,46 @@ fn mode_in(bytes: &[u8]) -> Option<u32>
         Some(1)
     } else {
         None
+    }
+}
+
+/// The place of an id among these.
+fn place_of(ids: &[u32], id: u32) -> Option<usize>
+    ensures { IsPlaceOf ids.now id result }
+{
+    for place in 0..ids.len() {
+        if ids[place] == id {
+            return Some(place);
+        }
+    }
+    None
+}
+
+/// Gives the parameter of this id, among those of a kind, a value, where there is one and the value is at most 1.0.
+#[tactic(auto, using(crate::proofs::Places::set_there, crate::proofs::Places::set_nowhere, crate::proofs::Places::set_over, crate::proofs::Places::set_valued))]
+fn set_value(kind: Kind, values: &mut [u32], id: u32, value: u32)
+    requires { AreValues (builtin (kind_number kind)).params values.old }
+    ensures set { values.new ≡ normalized_to (builtin (kind_number kind)).params values.old id value }
+    ensures valued { AreValues (builtin (kind_number kind)).params values.new }
+{
+    if value > ONE {
+        return;
+    }
+    if let Some(place) = place_of(kind.ids(), id) {
+        values[place] = value;
+    }
+}
+
+/// The value of the parameter of this id, among those of a kind.
+#[tactic(auto, using(crate::proofs::Places::read_there, crate::proofs::Places::some_place))]
+fn value_of(kind: Kind, values: &[u32], id: u32) -> u32
+    requires values { AreValues (builtin (kind_number kind)).params values.now }
+    requires there { has_id (builtin (kind_number kind)).params id ≡ true }
+    ensures { result ≡ value_in (builtin (kind_number kind)).params values.now id }
+{
+    match place_of(kind.ids(), id) {
+        Some(place) => values[place],
+        None => 0,
     }
 }
 
@@ -81,13 +123,11 @@ impl Controller for Editor {
     }
 
     fn set_normalized(&mut self, id: u32, value: u32) {
-        if (id as usize) < self.values.len() && value <= ONE {
-            self.values[id as usize] = value;
-        }
+        set_value(self.kind, &mut self.values, id, value);
     }
 
     fn normalized(&self, id: u32) -> u32 {
-        self.values[id as usize]
+        value_of(self.kind, &self.values, id)
     }
 
     fn notify(&mut self, message: &Words) {

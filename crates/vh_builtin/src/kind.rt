@@ -1,7 +1,9 @@
 //! The kinds of built-in classes.
 
-ghost use Rattle.std.specs.Prelude.{◌≡◌, ◌<◌, ◌≤◌, ◌+◌, [], ◌∷◌, length, take};
-ghost use Rattle.vh_builtin.specs.Builtins.{builtin, writable_ids};
+ghost use Rattle.std.specs.Prelude.{◌≡◌, ◌<◌, ◌≤◌, ◌+◌, length};
+ghost use Rattle.vh_plugin.specs.Quiet.{ids_of};
+ghost use Rattle.vh_builtin.specs.Builtins.{builtin};
+ghost use Rattle.vh_builtin.specs.Bytes.{writable_ids};
 ghost use Rattle.vh_builtin.specs.Partners.{component_of};
 
 use vh_ids::Tuid;
@@ -18,9 +20,6 @@ pub enum Kind {
     Meter,
     Tap,
 }
-
-/// The identifiers of parameters, of which each class has the first so many.
-pub const IDS: [u32; 3] = [0, 1, 2];
 
 impl Kind {
     ghost use Rattle.vh_builtin.specs.Kinds.{kind_number};
@@ -42,17 +41,28 @@ impl Kind {
         }
     }
 
-    /// The number of its writable parameters.
-    pub fn writable(self) -> usize
-        ensures ids { writable_ids (kind_number self) ≡ take result (0 ∷ 1 ∷ 2 ∷ []) }
-        ensures most { result ≤ 3 }
-        ensures params { result ≤ length (builtin (kind_number self)).params }
+    /// The ids of its parameters, by rising id.
+    pub fn ids(self) -> &'static [u32]
+        ensures { result.now ≡ ids_of (builtin (kind_number self)).params }
     {
         match self {
-            Kind::Balance | Kind::OnePole | Kind::Tap => 1,
-            Kind::Gain | Kind::Crusher => 2,
-            Kind::Delay | Kind::Gate => 3,
-            Kind::Meter => 0,
+            Kind::Balance | Kind::OnePole | Kind::Tap => &[0],
+            Kind::Gain | Kind::Crusher | Kind::Meter => &[0, 1],
+            Kind::Delay | Kind::Gate => &[0, 1, 2],
+        }
+    }
+
+    /// The ids of those of its parameters that can be set, which stand before the others.
+    pub fn writable(self) -> &'static [u32]
+        ensures ids { result.now ≡ writable_ids (builtin (kind_number self)).params }
+        ensures most { length result.now ≤ 3 }
+        ensures params { length result.now ≤ length (builtin (kind_number self)).params }
+    {
+        match self {
+            Kind::Balance | Kind::OnePole | Kind::Tap => &[0],
+            Kind::Gain | Kind::Crusher => &[0, 1],
+            Kind::Delay | Kind::Gate => &[0, 1, 2],
+            Kind::Meter => &[],
         }
     }
 

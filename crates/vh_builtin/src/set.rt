@@ -49,6 +49,8 @@ impl PluginSet for BuiltIn {
     ghost use Rattle.std.specs.Prelude.{ℕ};
     ghost use Rattle.vh_counted.specs.Held.{value_of_ended};
     ghost use Rattle.vh_plugin.specs.Counts.{raised, raised_by};
+    ghost use Rattle.vh_plugin.specs.ListLaws.{one_class_agrees};
+    ghost use Rattle.vh_builtin.specs.Builtins.{builtin};
     ghost use Rattle.vh_builtin.specs.Members.{number_of_class, each_means};
 
     type P = Component;
@@ -119,4 +121,6 @@ impl PluginSet for BuiltIn {
     ghost components = { λ set. each_means (classes_of set.classes) set.all };
 
     ghost controllers = { λ set. each_means (classes_of set.classes) set.all };
+
+    ghost agreeing = { λ set class within. one_class_agrees builtin (number_of_class class) };
 }

@@ -93,15 +93,16 @@ impl Sound {
         ensures valued { AreValues (builtin (sound_number self.old)).params values.new }
         ensures kind { sound_number self.new ≡ sound_number self.old }
     {
+        let ids = self.kind().ids();
         match self {
-            Sound::Gain(it) => play(it, &[0, 1], values, points, channels, n, main, aux, out),
-            Sound::Balance(it) => play(it, &[0], values, points, channels, n, main, aux, out),
-            Sound::Delay(it) => play(it, &[0, 1, 2], values, points, channels, n, main, aux, out),
-            Sound::OnePole(it) => play(it, &[0], values, points, channels, n, main, aux, out),
-            Sound::Crusher(it) => play(it, &[0, 1], values, points, channels, n, main, aux, out),
-            Sound::Gate(it) => play(it, &[0, 1, 2], values, points, channels, n, main, aux, out),
-            Sound::Meter(it) => play(it, &[0, 1], values, points, channels, n, main, aux, out),
-            Sound::Tap(it) => play(it, &[0], values, points, channels, n, main, aux, out),
+            Sound::Gain(it) => play(it, ids, values, points, channels, n, main, aux, out),
+            Sound::Balance(it) => play(it, ids, values, points, channels, n, main, aux, out),
+            Sound::Delay(it) => play(it, ids, values, points, channels, n, main, aux, out),
+            Sound::OnePole(it) => play(it, ids, values, points, channels, n, main, aux, out),
+            Sound::Crusher(it) => play(it, ids, values, points, channels, n, main, aux, out),
+            Sound::Gate(it) => play(it, ids, values, points, channels, n, main, aux, out),
+            Sound::Meter(it) => play(it, ids, values, points, channels, n, main, aux, out),
+            Sound::Tap(it) => play(it, ids, values, points, channels, n, main, aux, out),
         }
     }
 

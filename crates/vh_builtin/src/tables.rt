@@ -1,13 +1,13 @@
 //! What the set tells of its classes.
 
-ghost use Rattle.std.specs.Prelude.{◌≡◌, ◌≤◌, IfOk, [], ◌∷◌, length, map};
-ghost use Rattle.vh_params.specs.Params.{AreRising};
-ghost use Rattle.vh_params.specs.Tables.{params_of};
-ghost use Rattle.vh_plugin.specs.Class.{param_of};
-ghost use Rattle.vh_builtin.specs.Builtins.{builtin};
-ghost use Rattle.vh_builtin.specs.Kinds.{kind_number};
-ghost use Rattle.vh_builtin.specs.Infos.{IsBuiltIn, name_text};
+ghost use Rattle.std.specs.Prelude.{◌≡◌, ◌≤◌, IfOk, [], length, map, codes};
+ghost use Rattle.vh_params.specs.Params.{AreRising, AreUnits};
 ghost use Rattle.vh_params.specs.Short.{label_text};
+ghost use Rattle.vh_params.specs.Tables.{params_of, units_of};
+ghost use Rattle.vh_builtin.specs.Builtins.{class_rows, class_units};
+ghost use Rattle.vh_builtin.specs.Infos.{IsBuiltIn, name_text};
+ghost use Rattle.vh_builtin.specs.Kinds.{kind_number};
+ghost use Rattle.vh_builtin.specs.Rows.{row, row_of, unit_row, root_unit, hold_unit};
 
 use crate::kind::Kind;
 use std::alloc::{AllocError, Global};
@@ -19,7 +19,7 @@ use vh_params::{
 /// A parameter of the root unit, without units of values.
 fn param(id: u32, title: &[u8], steps: u32, first: u32, flags: u32) -> ParamInfo
     requires { length title.now ≤ 32 }
-    ensures { param_of result ≡ record { id = id; steps = steps; first = first; flags = flags } }
+    ensures { row_of result ≡ row id title.now [] steps first 0 flags }
 {
     ParamInfo {
         id,
@@ -35,7 +35,7 @@ fn param(id: u32, title: &[u8], steps: u32, first: u32, flags: u32) -> ParamInfo
 /// A number of samples up to 4,095.
 fn samples(id: u32, title: &[u8]) -> ParamInfo
     requires { length title.now ≤ 32 }
-    ensures { param_of result ≡ record { id = id; steps = 4095; first = 0; flags = 1 } }
+    ensures { row_of result ≡ row id title.now (codes "smp") 4095 0 0 1 }
 {
     ParamInfo {
         units: Label::new(b"smp"),
@@ -45,24 +45,48 @@ fn samples(id: u32, title: &[u8]) -> ParamInfo
 
 /// The bypass of a class.
 fn bypass(id: u32) -> ParamInfo
-    ensures { param_of result ≡ record { id = id; steps = 1; first = 0; flags = 65537 } }
+    ensures { row_of result ≡ row id (codes "Bypass") [] 1 0 0 65537 }
 {
     param(id, b"Bypass", 1, 0, CAN_AUTOMATE | IS_BYPASS)
 }
 
-/// A table of these parameters, in the root unit and, for the crusher, a unit `Hold`.
-fn table(alloc: Global, params: &[ParamInfo]) -> Result<ParamTable, AllocError>
-    requires few { length params.now ≤ 64 }
-    requires rising { AreRising params.now }
-    ensures { IfOk result (λ made. params_of made ≡ params.now) }
+/// The crusher's Hold, in a unit of its own.
+fn hold(id: u32) -> ParamInfo
+    ensures { row_of result ≡ row id (codes "Hold") [] 63 0 1 1 }
 {
-    let root = UnitInfo::root(Label::new(b"Root"));
-    let hold = UnitInfo {
+    ParamInfo {
+        unit: 1,
+        ..param(id, b"Hold", 63, 0, CAN_AUTOMATE)
+    }
+}
+
+/// The root unit.
+fn root() -> UnitInfo
+    ensures { unit_row result ≡ root_unit }
+{
+    UnitInfo::root(Label::new(b"Root"))
+}
+
+/// The unit of the crusher's Hold.
+fn hold_unit() -> UnitInfo
+    ensures { unit_row result ≡ hold_unit }
+{
+    UnitInfo {
         id: 1,
         parent: Some(0),
         name: Label::new(b"Hold"),
-    };
-    match ParamTable::new(alloc, params, &[root, hold]) {
+    }
+}
+
+/// A table of these parameters and units.
+fn table(alloc: Global, params: &[ParamInfo], units: &[UnitInfo]) -> Result<ParamTable, AllocError>
+    requires few { length params.now ≤ 64 }
+    requires rising { AreRising params.now }
+    requires units { AreUnits units.now }
+    ensures params { IfOk result (λ made. params_of made ≡ params.now) }
+    ensures units { IfOk result (λ made. units_of made ≡ units.now) }
+{
+    match ParamTable::new(alloc, params, units) {
         Ok(made) => Ok(made),
         Err(_) => Err(AllocError),
     }
@@ -70,14 +94,20 @@ fn table(alloc: Global, params: &[ParamInfo]) -> Result<ParamTable, AllocError>
 
 /// The table of a kind's parameters.
 fn table_of(alloc: Global, kind: Kind) -> Result<ParamTable, AllocError>
-    ensures { IfOk result (λ made. map param_of (params_of made) ≡ (builtin (kind_number kind)).params) }
+    ensures params { IfOk result (λ made. map row_of (params_of made) ≡ class_rows (kind_number kind)) }
+    ensures units { IfOk result (λ made. map unit_row (units_of made) ≡ class_units (kind_number kind)) }
 {
     match kind {
         Kind::Gain => table(
             alloc,
             &[param(0, b"Level", 0, ONE / 2, CAN_AUTOMATE), bypass(1)],
+            &[root()],
         ),
-        Kind::Balance => table(alloc, &[param(0, b"Position", 0, ONE / 2, CAN_AUTOMATE)]),
+        Kind::Balance => table(
+            alloc,
+            &[param(0, b"Position", 0, ONE / 2, CAN_AUTOMATE)],
+            &[root()],
+        ),
         Kind::Delay => table(
             alloc,
             &[
@@ -85,17 +115,17 @@ fn table_of(alloc: Global, kind: Kind) -> Result<ParamTable, AllocError>
                 param(1, b"Mix", 0, ONE / 2, CAN_AUTOMATE),
                 param(2, b"Feedback", 0, 0, CAN_AUTOMATE),
             ],
+            &[root()],
         ),
-        Kind::OnePole => table(alloc, &[param(0, b"Cutoff", 0, ONE, CAN_AUTOMATE)]),
+        Kind::OnePole => table(
+            alloc,
+            &[param(0, b"Cutoff", 0, ONE, CAN_AUTOMATE)],
+            &[root()],
+        ),
         Kind::Crusher => table(
             alloc,
-            &[
-                param(0, b"Depth", 15, ONE, CAN_AUTOMATE),
-                ParamInfo {
-                    unit: 1,
-                    ..param(1, b"Hold", 63, 0, CAN_AUTOMATE)
-                },
-            ],
+            &[param(0, b"Depth", 15, ONE, CAN_AUTOMATE), hold(1)],
+            &[root(), hold_unit()],
         ),
         Kind::Gate => table(
             alloc,
@@ -104,6 +134,7 @@ fn table_of(alloc: Global, kind: Kind) -> Result<ParamTable, AllocError>
                 samples(1, b"Hold"),
                 bypass(2),
             ],
+            &[root()],
         ),
         Kind::Meter => table(
             alloc,
@@ -111,8 +142,9 @@ fn table_of(alloc: Global, kind: Kind) -> Result<ParamTable, AllocError>
                 param(0, b"Peak left", 0, 0, IS_READ_ONLY),
                 param(1, b"Peak right", 0, 0, IS_READ_ONLY),
             ],
+            &[root()],
         ),
-        Kind::Tap => table(alloc, &[param(0, b"Marker", 0, 0, CAN_AUTOMATE)]),
+        Kind::Tap => table(alloc, &[param(0, b"Marker", 0, 0, CAN_AUTOMATE)], &[root()]),
     }
 }
 
@@ -133,6 +165,7 @@ fn name_of(kind: Kind) -> Label
 }
 
 /// What is known of a kind.
+#[tactic(auto, using(crate::proofs::Rowed::class_means))]
 pub fn info_of(alloc: Global, kind: Kind) -> Result<ClassInfo, AllocError>
     ensures { IfOk result (IsBuiltIn (kind_number kind)) }
 {

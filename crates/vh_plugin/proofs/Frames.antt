@@ -3,8 +3,9 @@ use Rattle.std.proofs.Common.{◌≡◌, ℕ, zero, suc, ◌+◌, ◌-◌, ◌<�
 use borrow.Rule.Slice.PartMut.{post_of}
 use Rattle.std.proofs.lemmas.Bool.{ne_eqb}
 use Rattle.std.proofs.lemmas.List.{get_or-append-add, get_or_append_left, get_or-take, get_or-drop, length-take-le, length-drop, length-append, drop_at}
-use Rattle.vh_plugin.specs.Class.{Class, State, Frame}
-use Rattle.vh_plugin.specs.Blocks.{block_of, Block, frame_at, main_at, aux_at}
+use Rattle.vh_num.specs.Frames.{Frame, frame_at}
+use Rattle.vh_plugin.specs.Class.{Class, State}
+use Rattle.vh_plugin.specs.Blocks.{block_of, Block, main_at, aux_at}
 use Rattle.vh_plugin.specs.Runs.{mono, stereo, aux_mono, aux_stereo, run_state, IsRun}
 use Rattle.vh_plugin.specs.Stretch.{IsPart, stretch_state, IsStretch}
 

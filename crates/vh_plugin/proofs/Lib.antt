@@ -2,3 +2,5 @@ mod Copies
 mod Stretches
 mod Frames
 mod Played
+mod Streams
+mod Values

@@ -1,9 +1,10 @@
 -- A block that is played stretch by stretch.
 use Rattle.std.proofs.Common.{◌≡◌, ℕ, zero, suc, ◌+◌, ◌-◌, ◌*◌, ◌<◌, ◌≤◌, inl, true, false, nat_lt, ℤ, List, [], length, refl, sym, ap, subst, ◌∙◌, arith}
 use Rattle.std.proofs.lemmas.Bool.{ltb-true, ltb-false}
+use Rattle.vh_num.specs.Frames.{frame_at}
 use Rattle.vh_points.specs.Queues.{Queue}
 use Rattle.vh_plugin.specs.Class.{Class, State}
-use Rattle.vh_plugin.specs.Blocks.{block_of, frame_at, main_at, aux_at, values_at, state_in, output_in}
+use Rattle.vh_plugin.specs.Blocks.{block_of, main_at, aux_at, values_at, state_in, output_in}
 use Rattle.vh_plugin.specs.Stretch.{stretch_state, IsStretch}
 
 -- the samples before `from` were played

@@ -1,13 +1,9 @@
 -- What a block comes to: the fold of a class's step over its samples.
-use Rattle.std.specs.Prelude.{◌≡◌, ℕ, zero, suc, ◌*◌, ◌<◌, true, List, [], ◌∷◌, length, drop, slice_index_or, Option, Some, None, All, ◌⊎◌, ℤ, pos, if◌then◌else◌, ◌==◌}
+use Rattle.std.specs.Prelude.{◌≡◌, ℕ, zero, suc, ◌*◌, ◌<◌, true, List, [], ◌∷◌, length, Option, Some, None, All, ◌⊎◌, ℤ, if◌then◌else◌, ◌==◌}
+use Rattle.vh_num.specs.Frames.{Frame, frame_at}
 use Rattle.vh_points.specs.Queues.{Queue}
 use Rattle.vh_points.specs.Values.{value_at, value_behind, points_of}
-use Rattle.vh_plugin.specs.Class.{Param, Class, State, Frame, has_writable}
-
--- the frame of a place, in samples that stand channel after channel, n of each
-abbrev pub frame_at : ℕ → ℕ → List ℤ → ℕ → Frame
-frame_at zero n samples place = []
-frame_at (suc channels) n samples place = slice_index_or samples place (pos 0) ∷ frame_at channels n (drop n samples) place
+use Rattle.vh_plugin.specs.Class.{Param, Class, State, has_writable}
 
 -- what a processor is handed: samples channel after channel, no aux samples where there is no aux frame
 pub record Block : Type 0 where

@@ -1,11 +1,9 @@
 -- What a class of plug-ins means.
-use Rattle.std.specs.Prelude.{◌≡◌, ℕ, ◌<◌, ◌≤◌, ◌^◌, bit_and, slice_index_or, Bool, true, false, not, ◌&&◌, ◌==◌, List, [], ◌∷◌, length, Option, Some, None, All, ℤ, if◌then◌else◌}
+use Rattle.std.specs.Prelude.{◌≡◌, ℕ, ◌<◌, ◌≤◌, ◌^◌, slice_index_or, Bool, true, false, ◌&&◌, ◌==◌, List, [], ◌∷◌, length, Option, Some, None, All, ℤ, if◌then◌else◌}
 use Rattle.std.specs.List.{list_any}
+pub use Rattle.vh_num.specs.Frames.{Frame}
 use Rattle.vh_params.specs.declared.param.ParamInfo.{ParamInfo}
-
--- one sample of each channel, in units of 2^-23 of full scale
-abbrev pub Frame : Type 0
-Frame = List ℤ
+use Rattle.vh_params.specs.Flags.{is_read_only, is_writable}
 
 -- what a processor keeps between samples
 abbrev pub State : Type 0
@@ -41,24 +39,18 @@ pub record Class : Type 0 where
   -- the identifier of its controllers' class
   pub partner : List ℕ
 
-abbrev pub is_shown : Param → Bool
-is_shown param = not (bit_and param.flags 2 == 0)
-
-abbrev pub is_writable : Param → Bool
-is_writable param = bit_and param.flags 2 == 0
-
 -- the id is that of a parameter that can be set, or of one that is only shown
 abbrev pub has_writable : List Param → ℕ → Bool
-has_writable params id = list_any (λ param. (param.id == id) && is_writable param) params
+has_writable params id = list_any (λ param. (param.id == id) && is_writable param.flags) params
 
 abbrev pub has_shown : List Param → ℕ → Bool
-has_shown params id = list_any (λ param. (param.id == id) && is_shown param) params
+has_shown params id = list_any (λ param. (param.id == id) && is_read_only param.flags) params
 
 -- of these values, one for each parameter, those of the writable ones
 abbrev pub writable_of : List Param → List ℕ → List ℕ
 writable_of [] values = []
 writable_of (param ∷ params) [] = []
-writable_of (param ∷ params) (value ∷ values) = if is_writable param then value ∷ writable_of params values else writable_of params values
+writable_of (param ∷ params) (value ∷ values) = if is_writable param.flags then value ∷ writable_of params values else writable_of params values
 
 -- these values, of which the writable ones are others
 abbrev pub with_writable : List Param → List ℕ → List ℕ → List ℕ
@@ -66,7 +58,7 @@ with_writable [] values others = []
 with_writable (param ∷ params) [] others = []
 with_writable (param ∷ params) (value ∷ values) [] = value ∷ values
 with_writable (param ∷ params) (value ∷ values) (other ∷ others) =
-    if is_writable param then other ∷ with_writable params values others else value ∷ with_writable params values (other ∷ others)
+    if is_writable param.flags then other ∷ with_writable params values others else value ∷ with_writable params values (other ∷ others)
 
 -- the defaults
 abbrev pub firsts_of : List Param → List ℕ
@@ -82,7 +74,7 @@ pub record AreValues (params : List Param) (values : List ℕ) : Type 0 where
 pub record IsLawful (class : Class) : Type 0 where
   pub rising : (i j : ℕ) (d : Param) → i < j → j < length class.params → (slice_index_or class.params i d).id < (slice_index_or class.params j d).id
   pub few : length class.params ≤ 64
-  pub starts : All (λ param. is_shown param ≡ true → class.shown class.start param.id ≡ param.first) class.params
+  pub starts : All (λ param. is_read_only param.flags ≡ true → class.shown class.start param.id ≡ param.first) class.params
   pub held : (bytes values : List ℕ) → class.state_of bytes ≡ Some values → (length values ≡ length (writable_of class.params (firsts_of class.params))) × All (λ value. value ≤ 2 ^ 24) values
   pub reads_back : (values : List ℕ) → AreValues class.params values → class.state_of (class.state_text values) ≡ Some (writable_of class.params values)
   pub short : (values : List ℕ) → AreValues class.params values → length (class.state_text values) ≤ 1048576

@@ -1,5 +1,6 @@
 pub mod Class
 pub mod Blocks
+pub mod Streams
 pub mod Counts
 pub mod Controls
 pub mod Sets
@@ -10,3 +11,4 @@ pub mod ListLaws
 pub mod Quiet
 pub mod Runs
 pub mod Stretch
+pub mod Laws

@@ -4,7 +4,7 @@ use Rattle.std.proofs.lemmas.Bool.{ltb-true, ltb-false}
 use Rattle.vh_params.specs.declared.class.ClassInfo.{ClassInfo}
 use Rattle.vh_params.specs.declared.param.ParamInfo.{ParamInfo}
 use Rattle.vh_plugin.specs.Class.{Class, param_of}
-use Rattle.vh_plugin.specs.Sets.{IsClassOf}
+use Rattle.vh_plugin.specs.Sets.{IsClassOf, AgreeOnBytes}
 use Rattle.vh_plugin.specs.Lists.{IsSame, AreBoth, code_in_both}
 use Rattle.vh_plugin.specs.Pairs.{both_classes}
 use Rattle.vh_plugin.specs.PairLaws.{first_class, second_class}
@@ -33,4 +33,28 @@ both_are_classes a_class b_class first second both a_code b_code are one other c
           let back : length first + place ≡ class = omega (arith, behind) in
           let same = subst (λ n. IsSame (get_or both n d) (get_or second place d)) back (are.seconds place d there) in
           subst (λ (c : Class). IsClassOf c (get_or both class d)) (sym (second_class a_class b_class (b_code place))) (same_class (b_class (b_code place)) (get_or both class d) (get_or second place d) same (other place d there))
+    ] refl
+
+-- a set whose processors and controllers have one class for each code
+pub one_class_agrees : (classes : ℕ → Class) (code : ℕ) → AgreeOnBytes (classes code) (classes code)
+one_class_agrees classes code bytes = refl
+
+-- the classes of both codes agree where those of each set do
+pub both_agree : (a_class b_class a_other b_other : ℕ → Class) (first second both : List ClassInfo) (a_code b_code : ℕ → ℕ)
+    → AreBoth first second both
+    → ((class : ℕ) → class < length first → AgreeOnBytes (a_class (a_code class)) (a_other (a_code class)))
+    → ((class : ℕ) → class < length second → AgreeOnBytes (b_class (b_code class)) (b_other (b_code class)))
+    → (class : ℕ) → class < length both
+    → AgreeOnBytes (both_classes a_class b_class (code_in_both (length first) a_code b_code class)) (both_classes a_other b_other (code_in_both (length first) a_code b_code class))
+both_agree a_class b_class a_other b_other first second both a_code b_code are one other class within =
+    elim (nat_lt class (length first)) as (λ t. nat_lt class (length first) ≡ t
+    → AgreeOnBytes (both_classes a_class b_class (cond t (2 * a_code class) (2 * b_code (class - length first) + 1))) (both_classes a_other b_other (cond t (2 * a_code class) (2 * b_code (class - length first) + 1)))) [
+      | true ↦ λ test.
+          subst (λ (c : Class). AgreeOnBytes c (both_classes a_other b_other (2 * a_code class))) (sym (first_class a_class b_class (a_code class)))
+          (subst (λ (c : Class). AgreeOnBytes (a_class (a_code class)) c) (sym (first_class a_other b_other (a_code class))) (one class (ltb-true class (length first) test)))
+      | false ↦ λ test.
+          let place = class - length first in
+          let there : place < length second = (let behind = ltb-false class (length first) test in omega (arith, behind, within, are.long)) in
+          subst (λ (c : Class). AgreeOnBytes c (both_classes a_other b_other (2 * b_code place + 1))) (sym (second_class a_class b_class (b_code place)))
+          (subst (λ (c : Class). AgreeOnBytes (b_class (b_code place)) c) (sym (second_class a_other b_other (b_code place))) (other place there))
     ] refl

@@ -1,6 +1,7 @@
 -- A stretch of a block in which no value changes.
 use Rattle.std.specs.Prelude.{◌≡◌, ℕ, zero, suc, ◌<◌, ◌⊎◌, List, [], ◌∷◌, length, slice_index_or, Option, Some, None, true, ℤ, pos, if◌then◌else◌, ◌==◌}
-use Rattle.vh_plugin.specs.Class.{Class, State, Frame}
+use Rattle.vh_num.specs.Frames.{Frame}
+use Rattle.vh_plugin.specs.Class.{Class, State}
 
 -- the frames of one channel, and of two
 abbrev pub mono : List ℤ → ℕ → Frame

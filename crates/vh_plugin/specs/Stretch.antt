@@ -1,7 +1,8 @@
 -- A stretch of a block, which a kernel ran.
 use Rattle.std.specs.Prelude.{◌≡◌, ℕ, ◌+◌, ◌-◌, ◌<◌, ◌≤◌, ◌⊎◌, List, length, take, drop, ℤ}
+use Rattle.vh_num.specs.Frames.{frame_at}
 use Rattle.vh_plugin.specs.Class.{Class, State}
-use Rattle.vh_plugin.specs.Blocks.{Block, frame_at, main_at, aux_at}
+use Rattle.vh_plugin.specs.Blocks.{Block, main_at, aux_at}
 use Rattle.vh_plugin.specs.Runs.{run_state, run_output}
 
 -- the aux samples of a stretch, none where there are none

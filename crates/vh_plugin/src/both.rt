@@ -1,6 +1,6 @@
 //! Two sets of plug-ins as one.
 
-ghost use Rattle.std.specs.Prelude.{◌≡◌, ◌<◌, ◌+◌, ◌^◌, length, IfOk, OnOk};
+ghost use Rattle.std.specs.Prelude.{◌≡◌, ◌<◌, ◌+◌, ◌^◌, ℕ, length, IfOk, OnOk};
 ghost use Rattle.vh_params.specs.ClassList.{classes_of};
 ghost use Rattle.vh_plugin.specs.Lists.{IsSame, AreCopied, AreBoth, NamesApart, code_in_both};
 
@@ -31,6 +31,7 @@ impl<A: PluginSet + Drop, B: PluginSet + Drop> Both<A, B> {
         requires names { NamesApart (A.infos first) (B.infos second) }
         requires count { length (A.infos first) + length (B.infos second) < 2 ^ 32 }
         ensures infos { IfOk result (λ both. AreBoth (A.infos first) (B.infos second) (⟦<Both<A, B> as PluginSet>⟧.infos both)) }
+        ensures codes { IfOk result (λ both. (class : ℕ) → ⟦<Both<A, B> as PluginSet>⟧.code both class ≡ code_in_both (length (A.infos first)) (A.code first) (B.code second) class) }
         ensures made { IfOk result (λ both. ⟦<Both<A, B> as PluginSet>⟧.made both ≡ 0) }
         ensures ended { IfOk result (λ both. ⟦<Both<A, B> as PluginSet>⟧.ended both ≡ 0) }
         ensures work { IfOk result (λ both. ⟦<Both<A, B> as PluginSet>⟧.work both ≡ 0) }
@@ -54,7 +55,7 @@ impl<A: PluginSet + Drop, B: PluginSet + Drop> PluginSet for Both<A, B> {
     ghost use Rattle.std.specs.Prelude.{ℕ};
     ghost use Rattle.vh_counted.specs.Held.{value_of_ended};
     ghost use Rattle.vh_plugin.specs.Counts.{raised, raised_by};
-    ghost use Rattle.vh_plugin.specs.ListLaws.{both_are_classes};
+    ghost use Rattle.vh_plugin.specs.ListLaws.{both_are_classes, both_agree};
     ghost use Rattle.vh_plugin.specs.Pairs.{either};
 
     type P = OneOf<A::P, B::P>;
@@ -135,6 +136,8 @@ impl<A: PluginSet + Drop, B: PluginSet + Drop> PluginSet for Both<A, B> {
     ghost components = { λ both. both_are_classes A.P.Processor.class_of B.P.Processor.class_of (A.infos both.first) (B.infos both.second) (classes_of both.classes) (A.code both.first) (B.code both.second) both.listed (A.components both.first) (B.components both.second) };
 
     ghost controllers = { λ both. both_are_classes A.C.Controller.class_of B.C.Controller.class_of (A.infos both.first) (B.infos both.second) (classes_of both.classes) (A.code both.first) (B.code both.second) both.listed (A.controllers both.first) (B.controllers both.second) };
+
+    ghost agreeing = { λ both. both_agree A.P.Processor.class_of B.P.Processor.class_of A.C.Controller.class_of B.C.Controller.class_of (A.infos both.first) (B.infos both.second) (classes_of both.classes) (A.code both.first) (B.code both.second) both.listed (A.agreeing both.first) (B.agreeing both.second) };
 }
 
 /// Adds what is said of these classes to a list.

@@ -4,6 +4,7 @@
 mod both;
 mod controller;
 mod kernel;
+pub mod laws;
 mod one_of;
 mod processor;
 mod set;

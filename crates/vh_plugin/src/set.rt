@@ -7,7 +7,7 @@ ghost use Rattle.vh_params.specs.declared.class.ClassInfo.{ClassInfo as Info};
 ghost use Rattle.vh_params.specs.ClassList.{classes_of};
 ghost use Rattle.vh_plugin.specs.Class.{firsts_of};
 ghost use Rattle.vh_plugin.specs.Counts.{raised, raised_by};
-ghost use Rattle.vh_plugin.specs.Sets.{IsClassOf};
+ghost use Rattle.vh_plugin.specs.Sets.{IsClassOf, AgreeOnBytes};
 
 use crate::controller::Controller;
 use crate::processor::Processor;
@@ -100,4 +100,7 @@ pub trait PluginSet {
     ghost components: { (s : Self) (class : ℕ) (d : Info) → class < length (infos s) → IsClassOf (Self.P.Processor.class_of (code s class)) (slice_index_or (infos s) class d) };
 
     ghost controllers: { (s : Self) (class : ℕ) (d : Info) → class < length (infos s) → IsClassOf (Self.C.Controller.class_of (code s class)) (slice_index_or (infos s) class d) };
+
+    /// A class's processors and controllers take the same values from the same state bytes.
+    ghost agreeing: { (s : Self) (class : ℕ) → class < length (infos s) → AgreeOnBytes (Self.P.Processor.class_of (code s class)) (Self.C.Controller.class_of (code s class)) };
 }
