@@ -3,7 +3,8 @@ use Rattle.std.proofs.Common.{◌≡◌, ◌∙◌, ℕ, zero, suc, ◌+◌, ◌
 use Rattle.std.specs.Prelude.{All, filter}
 use Rattle.std.specs.List.{range_with_len, flat_map}
 use Rattle.std.proofs.lemmas.List.Elements.{All-append, All-weaker, All-head, All-tail}
-use Rattle.vh_plugin.specs.Class.{Param, State, Frame}
+use Rattle.vh_num.specs.Frames.{Frame}
+use Rattle.vh_plugin.specs.Class.{Param, State}
 use Rattle.vh_session.specs.declared.wire.End.{End as WireEnd}
 use Rattle.vh_session.specs.declared.wire.End.TheVariants.{Out}
 use Rattle.vh_session.specs.declared.wire.Wire.{Wire}

@@ -8,7 +8,8 @@ use Rattle.std.proofs.lemmas.List.Elements.{Contains-push, Contains-append_left,
 use Rattle.std.proofs.lemmas.Map.Steps.{length-le_from_distinct_below}
 use Rattle.vh_graph.specs.Paths.{sources_of}
 use Rattle.vh_graph.specs.Order.{IsReady, IsOrderAfter, IsOrder}
-use Rattle.vh_plugin.specs.Class.{State, Frame}
+use Rattle.vh_num.specs.Frames.{Frame}
+use Rattle.vh_plugin.specs.Class.{State}
 use Rattle.vh_session.specs.Content.{node_wires}
 use Rattle.vh_meaning.specs.Scene.{Scene, node_count}
 use Rattle.vh_meaning.specs.Frames.{given, frame_within}

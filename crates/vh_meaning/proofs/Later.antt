@@ -5,7 +5,8 @@ use Rattle.std.specs.Prelude.{All, nat_le, ◌==◌}
 use Rattle.std.proofs.lemmas.Bool.{lt-leb, le-leb, leb-false, ne_eqb}
 use Rattle.std.proofs.lemmas.List.{append-nil}
 use Rattle.std.proofs.lemmas.List.Elements.{filter-append, All-head, All-tail}
-use Rattle.vh_plugin.specs.Class.{Param, State, Frame}
+use Rattle.vh_num.specs.Frames.{Frame}
+use Rattle.vh_plugin.specs.Class.{Param, State}
 use Rattle.vh_journal.specs.declared.entry.Entry.{Entry}
 use Rattle.vh_meaning.specs.Scene.{Scene, params_at, firsts_at, lane_of}
 use Rattle.vh_meaning.specs.Edits.{up_to, edits_of}

@@ -14,7 +14,8 @@ use Rattle.vh_num.specs.Samples.{clamp_of}
 use Rattle.vh_num.specs.Laws.{sum_of, in_lane}
 use Rattle.vh_params.specs.declared.command.Command.{Command}
 use Rattle.vh_params.specs.declared.command.Command.TheVariants.{Begin, Perform, End, Tell}
-use Rattle.vh_plugin.specs.Class.{Param, State, Frame}
+use Rattle.vh_num.specs.Frames.{Frame}
+use Rattle.vh_plugin.specs.Class.{Param, State}
 use Rattle.vh_session.specs.declared.wire.End.{End as WireEnd}
 use Rattle.vh_session.specs.declared.wire.End.TheVariants.{Out, Node as AtNode}
 use Rattle.vh_session.specs.declared.wire.Wire.{Wire}

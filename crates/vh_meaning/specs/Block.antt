@@ -1,6 +1,7 @@
 -- From what is kept before some samples to what is kept behind them: what a renderer that goes block by block shows.
 use Rattle.std.specs.Prelude.{◌≡◌, ◌<◌, ◌≤◌, ℕ, ◌+◌, List, [], ◌∷◌, ◌++◌, All}
-use Rattle.vh_plugin.specs.Class.{Param, State, Frame}
+use Rattle.vh_num.specs.Frames.{Frame}
+use Rattle.vh_plugin.specs.Class.{Param, State}
 use Rattle.vh_session.specs.declared.wire.End.TheVariants.{Node as AtNode}
 use Rattle.vh_session.specs.declared.wire.Wire.{Wire}
 use Rattle.vh_journal.specs.declared.entry.Entry.{Entry}

@@ -1,6 +1,7 @@
 -- The frame that each node gives at a sample.
 use Rattle.std.specs.Prelude.{ℕ, zero, suc, List, []}
-use Rattle.vh_plugin.specs.Class.{State, Frame}
+use Rattle.vh_num.specs.Frames.{Frame}
+use Rattle.vh_plugin.specs.Class.{State}
 use Rattle.vh_session.specs.declared.wire.End.TheVariants.{Out, Node as AtNode}
 use Rattle.vh_meaning.specs.Scene.{Scene, node_count, class_at}
 use Rattle.vh_meaning.specs.Mix.{main_mix, aux_mix}

@@ -6,7 +6,8 @@ use Rattle.vh_num.specs.Values.{quant_of}
 use Rattle.vh_params.specs.declared.command.Command.{Command}
 use Rattle.vh_params.specs.declared.command.Command.TheVariants.{Tell}
 use Rattle.vh_params.specs.declared.label.Words.{Words}
-use Rattle.vh_plugin.specs.Class.{Param, State, Frame}
+use Rattle.vh_num.specs.Frames.{Frame}
+use Rattle.vh_plugin.specs.Class.{Param, State}
 use Rattle.vh_session.specs.Content.{node_wires}
 use Rattle.vh_session.specs.declared.wire.End.TheVariants.{Out}
 use Rattle.vh_session.specs.declared.wire.Wire.{Wire}

@@ -3,7 +3,7 @@ use Rattle.std.specs.Prelude.{ℕ, ◌==◌, ◌&&◌, Bool, true, false, not, L
 use Rattle.std.specs.List.{range_with_len}
 use Rattle.vh_num.specs.Samples.{clamp_of}
 use Rattle.vh_num.specs.Laws.{sum_of, in_lane}
-use Rattle.vh_plugin.specs.Class.{Frame}
+use Rattle.vh_num.specs.Frames.{Frame}
 use Rattle.vh_session.specs.declared.wire.End.{End}
 use Rattle.vh_session.specs.declared.wire.End.TheVariants.{In, Out, Node as AtNode}
 use Rattle.vh_session.specs.declared.wire.Wire.{Wire}

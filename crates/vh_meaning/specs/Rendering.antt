@@ -4,7 +4,9 @@ use Rattle.std.specs.List.{range_with_len, filter_map, flat_map}
 use Rattle.vh_params.specs.declared.command.Command.{Command}
 use Rattle.vh_params.specs.declared.command.Command.TheVariants.{Begin, Perform, End, Tell}
 use Rattle.vh_params.specs.Short.{words_in}
-use Rattle.vh_plugin.specs.Class.{Param, Class, State, Frame, is_shown}
+use Rattle.vh_params.specs.Flags.{is_read_only}
+use Rattle.vh_num.specs.Frames.{Frame}
+use Rattle.vh_plugin.specs.Class.{Param, Class, State}
 use Rattle.vh_journal.specs.declared.entry.Entry.{Entry}
 use Rattle.vh_meaning.specs.Scene.{Scene, node_count, class_at, params_at, firsts_at}
 use Rattle.vh_meaning.specs.Values.{values_at}
@@ -24,7 +26,7 @@ abbrev pub seen_of : Class → State → List Param → List ℕ → List ℕ
 seen_of class state [] values = []
 seen_of class state (param ∷ params) [] = []
 seen_of class state (param ∷ params) (value ∷ values) =
-    (if is_shown param then class.shown state param.id else value) ∷ seen_of class state params values
+    (if is_read_only param.flags then class.shown state param.id else value) ∷ seen_of class state params values
 
 abbrev pub seen_at : Scene → (ℕ → State) → (ℕ → List ℕ) → ℕ → List ℕ
 seen_at scene states values node = seen_of (class_at scene node) (states node) (params_at scene node) (values node)

@@ -1,6 +1,7 @@
 -- What is kept of a rendering between samples, in place of the entries.
 use Rattle.std.specs.Prelude.{◌≡◌, ◌<◌, ℕ, Bool, nat_lt, List, [], ◌∷◌, count_by, All, Option}
-use Rattle.vh_plugin.specs.Class.{Param, State, Frame}
+use Rattle.vh_num.specs.Frames.{Frame}
+use Rattle.vh_plugin.specs.Class.{Param, State}
 use Rattle.vh_journal.specs.declared.entry.Entry.{Entry}
 use Rattle.vh_meaning.specs.Scene.{Scene, node_count, params_at, firsts_at, lane_of}
 use Rattle.vh_meaning.specs.Edits.{Edit, is_begin, is_end, edits_of}

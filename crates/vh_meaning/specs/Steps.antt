@@ -1,7 +1,8 @@
 -- One sample, of what is kept.
 use Rattle.std.specs.Prelude.{ℕ, ◌+◌, List, [], ◌∷◌, ◌++◌, Option, Some, None, if◌then◌else◌}
 use Rattle.vh_num.specs.Values.{quant_of}
-use Rattle.vh_plugin.specs.Class.{Param, Frame}
+use Rattle.vh_num.specs.Frames.{Frame}
+use Rattle.vh_plugin.specs.Class.{Param}
 use Rattle.vh_journal.specs.declared.entry.Entry.{Entry}
 use Rattle.vh_meaning.specs.Scene.{Scene, params_at, lane_of}
 use Rattle.vh_meaning.specs.Edits.{Edit, Began, Performed, Ended, edit_in}

@@ -1,6 +1,7 @@
 -- States and frames that fit together over several samples, in whatever order they came about.
 use Rattle.std.specs.Prelude.{◌≡◌, ◌<◌, ℕ, ◌+◌, List}
-use Rattle.vh_plugin.specs.Class.{State, Frame}
+use Rattle.vh_num.specs.Frames.{Frame}
+use Rattle.vh_plugin.specs.Class.{State}
 use Rattle.vh_meaning.specs.Scene.{Scene, node_count}
 use Rattle.vh_meaning.specs.Frames.{given, stepped}
 

@@ -3,7 +3,8 @@ use Rattle.std.specs.Prelude.{ℕ, zero, suc, ◌==◌, List, [], ◌∷◌, ◌
 use Rattle.vh_params.specs.declared.command.Command.{Command}
 use Rattle.vh_params.specs.declared.command.Command.TheVariants.{Begin, Perform, End, Tell}
 use Rattle.vh_params.specs.Short.{words_in}
-use Rattle.vh_plugin.specs.Class.{State, Frame}
+use Rattle.vh_num.specs.Frames.{Frame}
+use Rattle.vh_plugin.specs.Class.{State}
 use Rattle.vh_journal.specs.declared.entry.Entry.{Entry}
 use Rattle.vh_meaning.specs.Scene.{Scene, class_at}
 use Rattle.vh_meaning.specs.Values.{values_at}
