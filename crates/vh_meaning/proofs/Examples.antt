@@ -134,4 +134,11 @@ message_stands scene param first s one other words states has =
     }
 
 pub law_worked : Worked
-law_worked = record { two_editors = two_editors_stand; held_still = held_still_stands; message = message_stands; mix = refl }
+law_worked = record {
+  two_editors = two_editors_stand;
+  held_still = held_still_stands;
+  message = message_stands;
+  loud = refl;
+  side_chain = λ input frame. record { main = refl; aux = refl; none = refl };
+  past_end = λ scene. refl;
+}

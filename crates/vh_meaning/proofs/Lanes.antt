@@ -1,14 +1,17 @@
 -- Lanes, gestures and the values between them.
 use Rattle.std.proofs.Common.{◌≡◌, ◌≢◌, ◌∙◌, ℕ, true, false, cond, List, [], ◌∷◌, ◌++◌, Option, Some, None, refl, sym, ap}
-use Rattle.std.specs.Prelude.{All, nat_le, reverse}
+use Rattle.std.specs.Prelude.{All, nat_le, reverse, ◌==◌, if◌then◌else◌}
 use Rattle.std.specs.List.{filter_map, cons_option}
+use Rattle.std.proofs.lemmas.Bool.{and_parts, eqb-true}
 use Rattle.std.proofs.lemmas.List.Elements.{filter-append, filter_map-append, All-head, All-tail}
 use Rattle.vh_num.specs.Values.{quant_of}
+use Rattle.vh_params.specs.declared.command.Command.{Command}
+use Rattle.vh_params.specs.declared.command.Command.TheVariants.{Begin, Perform, End, Tell}
 use Rattle.vh_journal.specs.declared.entry.Entry.{Entry}
 use Rattle.vh_meaning.specs.Scene.{lane_of}
-use Rattle.vh_meaning.specs.Edits.{Edit, Began, Performed, Ended, is_open, edit_in, edits_of, up_to}
+use Rattle.vh_meaning.specs.Edits.{Edit, Began, Performed, Ended, is_open, is_parameter, edit_by, edit_in, edits_of, up_to}
 use Rattle.vh_meaning.specs.Values.{held, value_after}
-use Rattle.vh_meaning.specs.Laws.{LaneWhileNoneOpen, LastWithoutLane, last_performed, LaneWhileOpen, OnlyItsParameter}
+use Rattle.vh_meaning.specs.Laws.{LaneWhileNoneOpen, LastWithoutLane, last_performed, LaneWhileOpen, IsElsewhere, OnlyItsParameter}
 
 pub law_while_none_open : LaneWhileNoneOpen
 law_while_none_open scene h node param first s lane has closed =
@@ -68,6 +71,20 @@ edits_without : (before later : List Entry) (entry : Entry) (node id s : ℕ) �
 edits_without before later entry node id s none =
     ap (λ (l : List Edit). reverse l) (cut before (entry ∷ later) node id s ∙ ap (λ (l : List Edit). filter_map (edit_in node id) (up_to s before) ++ l) (skipped node id s entry later none) ∙ sym (cut before later node id s))
 
+-- a command that names another parameter is no edit of this one
+named : (node id n i : ℕ) (edit : Edit) → (n ≡ node → i ≡ id → ⊥) → (if is_parameter node id n i then Some edit else None) ≡ None
+named node id n i edit other = elim (is_parameter node id n i) as (λ b. is_parameter node id n i ≡ b → cond b (Some edit) None ≡ None) [
+  | true ↦ λ is. let both = and_parts (n == node) (i == id) is in absurd (other (eqb-true n node both.0) (eqb-true i id both.1))
+  | false ↦ λ is. refl
+] refl
+
+no_edit : (node id sample : ℕ) (command : Command) → IsElsewhere node id command → edit_by node id sample command ≡ None
+no_edit node id sample (Begin n i) is = named node id n i (Began sample) (λ e f. is.begins cc)
+no_edit node id sample (Perform n i value) is = named node id n i (Performed value) (λ e f. is.performs value cc)
+no_edit node id sample (End n i) is = named node id n i Ended (λ e f. is.ends cc)
+no_edit node id sample (Tell n words) is = refl
+
 pub law_only_its_parameter : OnlyItsParameter
-law_only_its_parameter scene before later entry node param first s none =
+law_only_its_parameter scene before later entry node param first s is =
+    let none = no_edit node param.id entry.sample entry.command is in
     ap (λ (l : List Edit). value_after (lane_of scene node param) param.steps first l s) (edits_without before later entry node param.id s none)

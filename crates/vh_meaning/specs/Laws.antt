@@ -4,7 +4,7 @@ use Rattle.std.specs.List.Sorted.{IsPermutation}
 use Rattle.vh_graph.specs.Order.{IsOrder}
 use Rattle.vh_num.specs.Values.{quant_of}
 use Rattle.vh_params.specs.declared.command.Command.{Command}
-use Rattle.vh_params.specs.declared.command.Command.TheVariants.{Tell}
+use Rattle.vh_params.specs.declared.command.Command.TheVariants.{Begin, Perform, End, Tell}
 use Rattle.vh_params.specs.declared.label.Words.{Words}
 use Rattle.vh_num.specs.Frames.{Frame}
 use Rattle.vh_plugin.specs.Class.{Param, State}
@@ -13,7 +13,7 @@ use Rattle.vh_session.specs.declared.wire.End.TheVariants.{Out}
 use Rattle.vh_session.specs.declared.wire.Wire.{Wire}
 use Rattle.vh_journal.specs.declared.entry.Entry.{Entry}
 use Rattle.vh_meaning.specs.Scene.{Scene, node_count, params_at, lane_of}
-use Rattle.vh_meaning.specs.Edits.{Edit, Began, Performed, Ended, is_open, edit_in, edits_of, up_to}
+use Rattle.vh_meaning.specs.Edits.{Edit, Began, Performed, Ended, is_open, edits_of, up_to}
 use Rattle.vh_meaning.specs.Values.{value_of, values_at}
 use Rattle.vh_meaning.specs.Mix.{is_at}
 use Rattle.vh_meaning.specs.Frames.{frame_of}
@@ -137,10 +137,16 @@ LaneWhileOpen = (scene : Scene) (h : List Entry) (node : ℕ) (param : Param) (f
     → IsSinceFirst begun later earlier (edits_of (up_to s h) node param.id)
     → value_of scene h node param first s ≡ last_performed param.steps (lane begun) later
 
--- An entry that isn't on a parameter changes its value nowhere.
+-- a command that is no edit of this parameter
+pub record IsElsewhere (node id : ℕ) (command : Command) : Type 0 where
+  pub begins : command ≢ Begin node id
+  pub performs : (value : ℕ) → command ≢ Perform node id value
+  pub ends : command ≢ End node id
+
+-- An entry that is no edit of a parameter changes its value nowhere.
 abbrev pub OnlyItsParameter : Type 0
 OnlyItsParameter = (scene : Scene) (before later : List Entry) (entry : Entry) (node : ℕ) (param : Param) (first s : ℕ)
-    → edit_in node param.id entry ≡ None
+    → IsElsewhere node param.id entry.command
     → value_of scene (before ++ entry ∷ later) node param first s ≡ value_of scene (before ++ later) node param first s
 
 -- the scene with its wires in another order

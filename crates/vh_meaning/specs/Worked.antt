@@ -1,16 +1,18 @@
 -- Worked examples of the definitions.
-use Rattle.std.specs.Prelude.{◌≡◌, ◌≤◌, ℕ, List, [], ◌∷◌, ℤ, pos, negsuc}
+use Rattle.std.specs.Prelude.{◌≡◌, ◌≤◌, ℕ, true, false, List, [], ◌∷◌, Some, None, ℤ, pos, negsuc}
 use Rattle.vh_params.specs.declared.command.Command.{Command}
 use Rattle.vh_params.specs.declared.command.Command.TheVariants.{Begin, Perform, End, Tell}
 use Rattle.vh_params.specs.declared.label.Words.{Words}
 use Rattle.vh_params.specs.Short.{words_in}
-use Rattle.vh_plugin.specs.Class.{Param, State}
+use Rattle.vh_plugin.specs.Class.{Param, State, Frame}
 use Rattle.vh_session.specs.Entry.{LaneText}
+use Rattle.vh_session.specs.declared.wire.End.TheVariants.{In, Node as AtNode}
+use Rattle.vh_session.specs.declared.wire.Wire.{Wire}
 use Rattle.vh_journal.specs.declared.entry.Entry.{Entry}
 use Rattle.vh_meaning.specs.Scene.{Scene, class_at, params_at, firsts_at}
 use Rattle.vh_meaning.specs.Values.{value_of}
-use Rattle.vh_meaning.specs.Mix.{mix}
-use Rattle.vh_meaning.specs.World.{told}
+use Rattle.vh_meaning.specs.Mix.{mix, main_mix, aux_mix}
+use Rattle.vh_meaning.specs.World.{silence, input_at, told}
 use Rattle.vh_meaning.specs.Rendering.{stops}
 
 abbrev pub entry_of : ℕ → ℕ → ℕ → Command → Entry
@@ -62,11 +64,24 @@ pub record MessageBetween (scene : Scene) (s one other : ℕ) (words : Words) (s
   pub stop : stops (message_between s one other words) ≡ s ∷ []
 
 -- twice the highest sample and once the lowest: clamped once, at the end
-abbrev pub loud : List (List ℤ)
+abbrev pub loud : List Frame
 loud = (pos 2147483647 ∷ []) ∷ (pos 2147483647 ∷ []) ∷ (negsuc 2147483647 ∷ []) ∷ []
+
+-- node 1 has the input on its main bus and node 0 on its aux bus
+abbrev pub side_chain : List Wire
+side_chain = record { from = In; to = AtNode 1; aux = false } ∷ record { from = AtNode 0; to = AtNode 1; aux = true } ∷ []
+
+-- Each bus has what its own wires bring, and a node without an aux wire has no aux frame.
+pub record SideChain (input frame : ℤ) : Type 0 where
+  pub main : main_mix 1 side_chain (input ∷ []) (λ node. frame ∷ []) (AtNode 1) ≡ mix 1 ((input ∷ []) ∷ [])
+  pub aux : aux_mix 1 side_chain (input ∷ []) (λ node. frame ∷ []) (AtNode 1) ≡ Some (mix 1 ((frame ∷ []) ∷ []))
+  pub none : aux_mix 1 side_chain (input ∷ []) (λ node. frame ∷ []) (AtNode 0) ≡ None
 
 pub record Worked : Type 0 where
   pub two_editors : (scene : Scene) (param : Param) (first : ℕ) → HasOneParameter scene param first (lane_with 0 ((0, 4194304) ∷ [])) → TwoEditors scene param first
   pub held_still : (scene : Scene) (param : Param) (first : ℕ) → HasOneParameter scene param first (lane_with 16 ((0, 0) ∷ (100, 16777216) ∷ [])) → HeldStill scene param first
   pub message : (scene : Scene) (param : Param) (first s one other : ℕ) (words : Words) (states : ℕ → State) → HasOneParameter scene param first [] → MessageBetween scene s one other words states
-  pub mix : mix 1 loud ≡ pos 2147483646 ∷ []
+  pub loud : mix 1 loud ≡ pos 2147483646 ∷ []
+  pub side_chain : (input frame : ℤ) → SideChain input frame
+  -- two frames of input, and then silence
+  pub past_end : (scene : Scene) → input_at scene ((pos 7 ∷ []) ∷ (pos 8 ∷ []) ∷ []) 2 ≡ silence scene.channels

@@ -109,7 +109,8 @@ pub fn silence_without_out()
     ensures { SilenceWithoutOut }
 {}
 
-/// Two editors whose gestures overlap on a lane, a gesture that holds a lane still, and a message between two performs.
+/// Two editors whose gestures overlap on a lane, a gesture that holds a lane still, a message between two performs, a
+/// mix that is clamped, an aux bus, and what lies past the end of the input.
 pub fn worked()
     ensures { Worked }
 {}
