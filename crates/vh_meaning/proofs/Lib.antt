@@ -1,10 +1,10 @@
-mod Later
-mod Reaching
-mod Fitting
-mod Traces
-mod Touches
-mod Applying
-mod Lanes
-mod Wires
+pub mod Later
+pub mod Reaching
+pub mod Fitting
+pub mod Traces
+pub mod Touches
+pub mod Applying
+pub mod Lanes
+pub mod Wires
 mod Examples
-mod Blocks
+pub mod Blocks

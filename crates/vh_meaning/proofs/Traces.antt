@@ -41,56 +41,47 @@ told_none scene s before (entry ∷ h) states none =
     ap (after_messages scene s (before ++ entry ∷ []) h) (told_nothing scene (values_at scene before s) entry.command entry.sample s states (All-head (IsNoMessageAt s) entry h none))
     ∙ told_none scene s (before ++ entry ∷ []) h states (All-tail (IsNoMessageAt s) entry h none)
 
--- the states agree with the world's after the messages of a sample
-abbrev AreWorlds : Scene → List Frame → List Entry → ℕ → (ℕ → State) → Type 0
-AreWorlds scene input h s states = (node : ℕ) → node < node_count scene → states node ≡ after scene input h s node
+-- a trace over n samples, under these entries and this input
+module _ (scene : Scene) (input : List Frame) (h : List Entry) (at n : ℕ) (states : ℕ → ℕ → State) (frames : ℕ → ℕ → Frame) (has : HasOrder scene)
+    (trace : IsTrace scene n (λ o. values_at scene h (at + o)) (λ o. input_at scene input (at + o)) states frames) where
+  -- its states at a sample are the world's after the messages there
+  abbrev AreWorlds : ℕ → Type 0
+  AreWorlds o = (node : ℕ) → node < node_count scene → states o node ≡ after scene input h (at + o) node
 
-abbrev IsTraceOf : Scene → List Frame → List Entry → ℕ → ℕ → (ℕ → ℕ → State) → (ℕ → ℕ → Frame) → Type 0
-IsTraceOf scene input h at n states frames = IsTrace scene n (λ o. values_at scene h (at + o)) (λ o. input_at scene input (at + o)) states frames
+  frames_of_world : (o : ℕ) → o < n → AreWorlds o → (node : ℕ) → node < node_count scene → frames o node ≡ frame_at scene input h (at + o) node
+  frames_of_world o lt same =
+      law_frames_that_fit scene (after scene input h (at + o)) (values_at scene h (at + o)) (input_at scene input (at + o)) (frames o) has (λ node within.
+      trace.consistent o lt node within
+      ∙ given_alike scene node (states o) (after scene input h (at + o)) (values_at scene h (at + o)) (values_at scene h (at + o)) (input_at scene input (at + o)) (frames o) (frames o)
+      (record { state = same node within; value = refl; sources = λ source is. refl }))
 
-frames_of_world : (scene : Scene) (input : List Frame) (h : List Entry) (at n : ℕ) (states : ℕ → ℕ → State) (frames : ℕ → ℕ → Frame) → HasOrder scene → IsTraceOf scene input h at n states frames
-    → (o : ℕ) → o < n → AreWorlds scene input h (at + o) (states o) → (node : ℕ) → node < node_count scene → frames o node ≡ frame_at scene input h (at + o) node
-frames_of_world scene input h at n states frames has trace o lt same node within =
-    law_frames_that_fit scene (after scene input h (at + o)) (values_at scene h (at + o)) (input_at scene input (at + o)) (frames o) has
-    (λ m inside.
-    trace.consistent o lt m inside
-    ∙ given_alike scene m (states o) (after scene input h (at + o)) (values_at scene h (at + o)) (values_at scene h (at + o)) (input_at scene input (at + o)) (frames o) (frames o)
-    (record { state = same m inside; value = refl; sources = λ source is. refl }))
-    node within
+  state_of_world : (o : ℕ) → o < n → AreWorlds o → (node : ℕ) → node < node_count scene → states (suc o) node ≡ world scene input h (at + suc o) node
+  state_of_world o lt same node within =
+      let next : suc o ≡ o + 1 = omega arith in
+      let later : suc (at + o) ≡ at + suc o = omega arith in
+      ap (λ (m : ℕ). states m node) next
+      ∙ trace.moves o node lt within
+      ∙ stepped_alike scene node (states o) (after scene input h (at + o)) (values_at scene h (at + o)) (values_at scene h (at + o)) (input_at scene input (at + o)) (frames o) (frame_at scene input h (at + o))
+      (record { state = same node within; value = refl; sources = λ source is. frames_of_world o lt same source (source_within scene has node source within is) })
+      ∙ ap (λ (s : ℕ). world scene input h s node) later
 
-state_of_world : (scene : Scene) (input : List Frame) (h : List Entry) (at n : ℕ) (states : ℕ → ℕ → State) (frames : ℕ → ℕ → Frame) → HasOrder scene → IsTraceOf scene input h at n states frames
-    → (o : ℕ) → o < n → AreWorlds scene input h (at + o) (states o) → (node : ℕ) → node < node_count scene → states (suc o) node ≡ world scene input h (at + suc o) node
-state_of_world scene input h at n states frames has trace o lt same node within =
-    let next : suc o ≡ o + 1 = omega arith in
-    let later : suc (at + o) ≡ at + suc o = omega arith in
-    ap (λ (m : ℕ). states m node) next
-    ∙ trace.moves o node lt within
-    ∙ stepped_alike scene node (states o) (after scene input h (at + o)) (values_at scene h (at + o)) (values_at scene h (at + o)) (input_at scene input (at + o)) (frames o) (frame_at scene input h (at + o))
-    (record { state = same node within; value = refl; sources = λ source is. frames_of_world scene input h at n states frames has trace o lt same source (source_within scene has node source within is) })
-    ∙ ap (λ (s : ℕ). world scene input h s node) later
+  worlds : ((node : ℕ) → node < node_count scene → states 0 node ≡ after scene input h at node) → All (IsNoMessageWithin at (at + n)) h → (o : ℕ) → o < n → AreWorlds o
+  worlds start none zero lt = λ node within.
+      let here : at ≡ at + 0 = omega arith in
+      start node within ∙ ap (λ (s : ℕ). after scene input h s node) here
+  worlds start none (suc o) lt = λ node within.
+      let before : o < n = omega (arith, lt) in
+      let quiet : All (IsNoMessageAt (at + suc o)) h = All-weaker (IsNoMessageWithin at (at + n)) (IsNoMessageAt (at + suc o)) (λ entry no is. no (at + suc o) is (omega arith) (omega (arith, lt))) h none in
+      state_of_world o before (worlds start none o before) node within
+      ∙ ap (λ (x : ℕ → State). x node) (sym (told_none scene (at + suc o) [] h (world scene input h (at + suc o)) quiet))
 
-worlds : (scene : Scene) (input : List Frame) (h : List Entry) (at n : ℕ) (states : ℕ → ℕ → State) (frames : ℕ → ℕ → Frame) → HasOrder scene → IsTraceOf scene input h at n states frames
-    → AreWorlds scene input h at (states 0) → All (IsNoMessageWithin at (at + n)) h
-    → (o : ℕ) → o < n → AreWorlds scene input h (at + o) (states o)
-worlds scene input h at n states frames has trace start none zero lt = λ node within.
-    let here : at ≡ at + 0 = omega arith in
-    start node within ∙ ap (λ (s : ℕ). after scene input h s node) here
-worlds scene input h at n states frames has trace start none (suc o) lt = λ node within.
-    let before : o < n = omega (arith, lt) in
-    let quiet : All (IsNoMessageAt (at + suc o)) h = All-weaker (IsNoMessageWithin at (at + n)) (IsNoMessageAt (at + suc o)) (λ entry no is. no (at + suc o) is (omega arith) (omega (arith, lt))) h none in
-    state_of_world scene input h at n states frames has trace o before (worlds scene input h at n states frames has trace start none o before) node within
-    ∙ ap (λ (x : ℕ → State). x node) (sym (told_none scene (at + suc o) [] h (world scene input h (at + suc o)) quiet))
-
-ends : (scene : Scene) (input : List Frame) (h : List Entry) (at n m : ℕ) (states : ℕ → ℕ → State) (frames : ℕ → ℕ → Frame) → HasOrder scene → IsTraceOf scene input h at n states frames
-    → AreWorlds scene input h at (states 0) → All (IsNoMessageWithin at (at + n)) h
-    → m ≤ n → 0 < m → (node : ℕ) → node < node_count scene → states m node ≡ world scene input h (at + m) node
-ends scene input h at n zero states frames has trace start none le some node within = absurd (omega (arith, some))
-ends scene input h at n (suc o) states frames has trace start none le some node within =
-    let lt : o < n = omega (arith, le) in
-    state_of_world scene input h at n states frames has trace o lt (worlds scene input h at n states frames has trace start none o lt) node within
+  behind : ((o : ℕ) → o < n → AreWorlds o) → (m : ℕ) → m ≤ n → 0 < m → (node : ℕ) → node < node_count scene → states m node ≡ world scene input h (at + m) node
+  behind all zero le some node within = absurd (omega (arith, some))
+  behind all (suc o) le some node within = state_of_world o (omega (arith, le)) (all o (omega (arith, le))) node within
 
 pub law_interchange : Interchange
-law_interchange scene input h at n states frames has start none trace = (
-  λ o node lt within. frames_of_world scene input h at n states frames has trace o lt (worlds scene input h at n states frames has trace start none o lt) node within,
-  λ node some within. ends scene input h at n n states frames has trace start none (omega arith) some node within,
-)
+law_interchange scene input h at n states frames has start none trace =
+    let all = worlds scene input h at n states frames has trace start none in (
+      λ o node lt within. frames_of_world scene input h at n states frames has trace o lt (all o lt) node within,
+      λ node some within. behind scene input h at n states frames has trace all n (omega arith) some node within,
+    )
