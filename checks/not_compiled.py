@@ -30,6 +30,22 @@ ROWS = [
         "linear-value-let-go",
     ),
     (
+        "an opener that is dropped",
+        "vh_counted",
+        "src/tests.rt",
+        "#[test]\nfn the_opener_alone_ends_its_object",
+        "fn lose(opener: super::Opened<u32>) {\n    let _ = opener;\n}\n\n#[test]\nfn the_opener_alone_ends_its_object",
+        "linear-value-let-go",
+    ),
+    (
+        "an ended object that is dropped",
+        "vh_counted",
+        "src/tests.rt",
+        "    assert_eq!(rt; *ended.value(), 5);\n    ended.finish();\n",
+        "    assert_eq!(rt; *ended.value(), 5);\n    let _ = ended;\n",
+        "linear-value-let-go",
+    ),
+    (
         "an ended object that is copied",
         "vh_counted",
         "src/object.rt",

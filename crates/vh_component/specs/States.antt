@@ -25,9 +25,18 @@ of_active state = state.opened
 abbrev pub of_processing : {T : Type 0} → Processing T → Opened T
 of_processing state = state.opened
 
--- the layout of an initialized component
+-- the layout of a component that was initialized
 abbrev pub layout_of : {T : Type 0} → Initialized T → Layout
 layout_of state = state.layout
+
+abbrev pub layout_of_ready : {T : Type 0} → Ready T → Layout
+layout_of_ready state = state.layout
+
+abbrev pub layout_of_active : {T : Type 0} → Active T → Layout
+layout_of_active state = state.layout
+
+abbrev pub layout_of_processing : {T : Type 0} → Processing T → Layout
+layout_of_processing state = state.layout
 
 -- a state with this value
 abbrev pub with_created : {T : Type 0} → T → Created T → Created T

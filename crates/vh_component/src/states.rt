@@ -25,16 +25,19 @@ pub struct Initialized<T> {
 /// A component that was set up.
 pub struct Ready<T> {
     opened: Opened<T>,
+    layout: Layout,
 }
 
 /// A component that is active.
 pub struct Active<T> {
     opened: Opened<T>,
+    layout: Layout,
 }
 
 /// A component that is processing.
 pub struct Processing<T> {
     opened: Opened<T>,
+    layout: Layout,
 }
 
 impl<T: Life + Drop> Created<T> {
@@ -81,7 +84,7 @@ impl<T: Life + Drop> Created<T> {
 impl<T: Life + Drop> Initialized<T> {
     ghost use Rattle.vh_component.specs.Buses.{IsActivated, IsArranged};
     ghost use Rattle.vh_component.specs.Layouts.{buses_of};
-    ghost use Rattle.vh_component.specs.States.{of_initialized, of_ready, layout_of, with_initialized, IsStep};
+    ghost use Rattle.vh_component.specs.States.{of_initialized, of_ready, layout_of, layout_of_ready, with_initialized, IsStep};
     ghost use Rattle.vh_component.specs.contracts.states.Initialized.{the_row};
 
     /// The object.
@@ -134,18 +137,16 @@ impl<T: Life + Drop> Initialized<T> {
         ensures phase { T.phase (value_of_opened (of_ready result)) ≡ AtReady }
         ensures setup { T.last_setup (value_of_opened (of_ready result)) ≡ setup.now }
         ensures step { IsStep T.rest (of_initialized self) (of_ready result) }
+        ensures layout { layout_of_ready result ≡ layout_of self }
     {
-        let Initialized {
-            mut opened,
-            layout: _,
-        } = self;
+        let Initialized { mut opened, layout } = self;
         opened.value_mut().set_up(setup);
-        Ready { opened }
+        Ready { opened, layout }
     }
 }
 
 impl<T: Life + Drop> Ready<T> {
-    ghost use Rattle.vh_component.specs.States.{of_ready, of_active, with_ready, IsStep};
+    ghost use Rattle.vh_component.specs.States.{of_ready, of_active, layout_of_ready, layout_of_active, with_ready, IsStep};
     ghost use Rattle.vh_component.specs.contracts.states.Ready.{the_row};
 
     /// The object.
@@ -163,16 +164,24 @@ impl<T: Life + Drop> Ready<T> {
         self.opened.value_mut()
     }
 
+    /// Its buses.
+    pub fn layout(&self) -> &Layout
+        ensures { result.now ≡ layout_of_ready self.now }
+    {
+        &self.layout
+    }
+
     /// Activates the component.
     pub fn activate(self) -> Active<T>
         requires { T.phase (value_of_opened (of_ready self)) ≡ AtReady }
         ensures phase { T.phase (value_of_opened (of_active result)) ≡ AtActive }
         ensures setup { T.last_setup (value_of_opened (of_active result)) ≡ T.last_setup (value_of_opened (of_ready self)) }
         ensures step { IsStep T.rest (of_ready self) (of_active result) }
+        ensures layout { layout_of_active result ≡ layout_of_ready self }
     {
-        let Ready { mut opened } = self;
+        let Ready { mut opened, layout } = self;
         opened.value_mut().set_active(true);
-        Active { opened }
+        Active { opened, layout }
     }
 
     /// Ends the component's life: its opener is given back.
@@ -182,14 +191,17 @@ impl<T: Life + Drop> Ready<T> {
         ensures setup { T.last_setup (value_of_opened result) ≡ T.last_setup (value_of_opened (of_ready self)) }
         ensures step { IsStep T.rest (of_ready self) result }
     {
-        let Ready { mut opened } = self;
+        let Ready {
+            mut opened,
+            layout: _,
+        } = self;
         opened.value_mut().terminate();
         opened
     }
 }
 
 impl<T: Life + Drop> Active<T> {
-    ghost use Rattle.vh_component.specs.States.{of_ready, of_active, of_processing, with_active, IsStep};
+    ghost use Rattle.vh_component.specs.States.{of_ready, of_active, of_processing, layout_of_ready, layout_of_active, layout_of_processing, with_active, IsStep};
     ghost use Rattle.vh_component.specs.contracts.states.Active.{the_row};
 
     /// The object.
@@ -207,16 +219,24 @@ impl<T: Life + Drop> Active<T> {
         self.opened.value_mut()
     }
 
+    /// Its buses.
+    pub fn layout(&self) -> &Layout
+        ensures { result.now ≡ layout_of_active self.now }
+    {
+        &self.layout
+    }
+
     /// Starts processing.
     pub fn start(self) -> Processing<T>
         requires { T.phase (value_of_opened (of_active self)) ≡ AtActive }
         ensures phase { T.phase (value_of_opened (of_processing result)) ≡ AtProcessing }
         ensures setup { T.last_setup (value_of_opened (of_processing result)) ≡ T.last_setup (value_of_opened (of_active self)) }
         ensures step { IsStep T.rest (of_active self) (of_processing result) }
+        ensures layout { layout_of_processing result ≡ layout_of_active self }
     {
-        let Active { mut opened } = self;
+        let Active { mut opened, layout } = self;
         opened.value_mut().set_processing(true);
-        Processing { opened }
+        Processing { opened, layout }
     }
 
     /// Deactivates the component.
@@ -225,15 +245,16 @@ impl<T: Life + Drop> Active<T> {
         ensures phase { T.phase (value_of_opened (of_ready result)) ≡ AtReady }
         ensures setup { T.last_setup (value_of_opened (of_ready result)) ≡ T.last_setup (value_of_opened (of_active self)) }
         ensures step { IsStep T.rest (of_active self) (of_ready result) }
+        ensures layout { layout_of_ready result ≡ layout_of_active self }
     {
-        let Active { mut opened } = self;
+        let Active { mut opened, layout } = self;
         opened.value_mut().set_active(false);
-        Ready { opened }
+        Ready { opened, layout }
     }
 }
 
 impl<T: Life + Drop> Processing<T> {
-    ghost use Rattle.vh_component.specs.States.{of_active, of_processing, with_processing, IsStep};
+    ghost use Rattle.vh_component.specs.States.{of_active, of_processing, layout_of_active, layout_of_processing, with_processing, IsStep};
     ghost use Rattle.vh_component.specs.contracts.states.Processing.{the_row};
 
     /// The object.
@@ -251,15 +272,23 @@ impl<T: Life + Drop> Processing<T> {
         self.opened.value_mut()
     }
 
+    /// Its buses.
+    pub fn layout(&self) -> &Layout
+        ensures { result.now ≡ layout_of_processing self.now }
+    {
+        &self.layout
+    }
+
     /// Stops processing.
     pub fn stop(self) -> Active<T>
         requires { T.phase (value_of_opened (of_processing self)) ≡ AtProcessing }
         ensures phase { T.phase (value_of_opened (of_active result)) ≡ AtActive }
         ensures setup { T.last_setup (value_of_opened (of_active result)) ≡ T.last_setup (value_of_opened (of_processing self)) }
         ensures step { IsStep T.rest (of_processing self) (of_active result) }
+        ensures layout { layout_of_active result ≡ layout_of_processing self }
     {
-        let Processing { mut opened } = self;
+        let Processing { mut opened, layout } = self;
         opened.value_mut().set_processing(false);
-        Active { opened }
+        Active { opened, layout }
     }
 }

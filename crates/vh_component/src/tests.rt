@@ -111,6 +111,7 @@ fn a_life_is_called_in_order(rt: HostRuntime) -> Result<(), Fail> {
         max: 8192,
     };
     let processing = initialized.set_up(&setup).activate().start();
+    assert_eq!(rt; processing.layout().buses().len(), 2);
     assert_eq!(rt; processing.value().setup, setup);
     let again = processing.stop().deactivate().activate().start();
     let mut ready = again.stop().deactivate();

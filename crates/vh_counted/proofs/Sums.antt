@@ -143,6 +143,10 @@ law_whole_has_all cap h others is whole =
       omega (arith, none),
     )
 
+-- the references of a whole holder
+pub total_of_whole : (cap : ℕ) (h : Numbers) → IsObject cap (h ∷ []) → total h + h.releases ≡ 1 + h.adds
+total_of_whole cap h is = omega (arith, is.references, count_cons h [], adds_cons h [], releases_cons h [])
+
 -- the numbers of two holders of an object, joined, are those of a holder
 pub within_joined : (cap : ℕ) (h other : Numbers) → cap ≤ 65535 → AreSome cap (h ∷ other ∷ []) → IsWithin (joined h other)
 within_joined cap h other most some =

@@ -5,11 +5,12 @@ use Rattle.vh_counted.specs.declared.object.Released.{Released}
 use Rattle.vh_counted.specs.declared.object.Released.TheVariants.{Left, Ended}
 use Rattle.vh_counted.specs.declared.object.TooMany.{TooMany}
 use Rattle.vh_counted.specs.Steps.{added, released}
+use Rattle.vh_counted.specs.Objects.{CountsFor}
 
--- an add that finds the count n
+-- an add: it finds a count and answers one more, which is at most 1 + cap, or no add is left to the holder
 abbrev pub IsAdded : ℕ → ℕ → Numbers → Numbers → Result ℕ TooMany → Type 0
-IsAdded iface n old new (Ok seen) = (0 < old.room) × (seen ≡ n + 1) × (new ≡ added iface (n + 1) old)
-IsAdded iface n old new (Err _) = (old.room ≡ 0) × (new ≡ old)
+IsAdded cap iface old new (Ok seen) = (0 < old.room) × ((n : ℕ) × CountsFor cap old n × (seen ≡ n + 1) × (new ≡ added iface seen old))
+IsAdded cap iface old new (Err _) = (old.room ≡ 0) × (new ≡ old)
 
 -- a release that finds the count n: it leaves one less, or was the last
 abbrev pub IsReleased : {T : Type 0} → ℕ → ℕ → Numbers → Numbers → Released T → Type 0

@@ -38,10 +38,11 @@ IsWhole cap h = IsObject cap (h ∷ [])
 abbrev pub AreSome : ℕ → List Numbers → Type 0
 AreSome cap holders = (others : List Numbers) × IsObject cap (holders ++ others)
 
--- a count that a holder may find: its own references are in it, and for a whole holder it is these
+-- a count that a holder may find: its own references are in it, its room is beside it, and for a whole holder
+-- it is these
 pub record CountsFor (cap : ℕ) (h : Numbers) (n : ℕ) : Type 0 where
   pub own : total h ≤ n
-  pub most : n ≤ 1 + cap
+  pub most : n + h.room ≤ 1 + cap
   pub whole : IsWhole cap h → n ≡ total h
 
 -- with whatever others these are all holders of an object, those are too

@@ -9,6 +9,10 @@ total n = sum n.references
 abbrev pub at_interface : Numbers → ℕ → ℕ
 at_interface n iface = slice_index n.references iface
 
+-- a holder of an object of so many interfaces has no reference beyond them
+pub record IsWithinInterfaces (interfaces : ℕ) (n : Numbers) : Type 0 where
+  pub beyond : (iface : ℕ) → interfaces ≤ iface → at_interface n iface ≡ 0
+
 -- two lists of references, position by position
 abbrev pub both : List ℕ → List ℕ → List ℕ
 both [] ys = []

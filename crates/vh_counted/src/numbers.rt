@@ -1,7 +1,7 @@
 //! The numbers that a holder carries.
 
 ghost use Rattle.std.specs.Prelude.{◌≡◌, ◌≤◌, ◌<◌, ◌+◌, ◌^◌, ℕ, length, sum, slice_index, true};
-ghost use Rattle.vh_counted.specs.Steps.{added, released, split_off, split_part, joined, first_numbers, IsWithin};
+ghost use Rattle.vh_counted.specs.Steps.{total, at_interface, added, released, split_off, split_part, joined, first_numbers, IsWithin};
 
 /// What a holder has and did: its references at each position of the object's interfaces, the adds that
 /// it may still make, the adds and the releases that it made, the count after the last of these, and
@@ -29,6 +29,34 @@ impl Numbers {
             seen: 0,
             ender: false,
         }
+    }
+
+    /// The references at an interface, of which there are none beyond the object's.
+    pub fn at(&self, iface: u32) -> u32
+        ensures { result ≡ at_interface self.now iface }
+    {
+        self.references.get(iface as usize).copied().unwrap_or(0)
+    }
+
+    /// All references.
+    pub fn total(&self) -> u32
+        requires { total self.now < 2 ^ 32 }
+        ensures { result ≡ total self.now }
+    {
+        self.references.iter().sum()
+    }
+
+    /// The first interface at which there is a reference.
+    pub fn place(&self) -> u32
+        requires { 1 ≤ total self.now }
+        ensures { 1 ≤ at_interface self.now result }
+    {
+        for i in 0..15 {
+            if self.references[i] > 0 {
+                return i as u32;
+            }
+        }
+        15
     }
 
     /// One reference more, after which the count is `seen`.

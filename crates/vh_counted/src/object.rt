@@ -1,7 +1,7 @@
 //! Objects, and who holds them.
 
-ghost use Rattle.std.specs.Prelude.{◌≡◌, ◌≤◌, ◌<◌, ◌+◌, ◌-◌, ℕ, [], ◌∷◌, true, false, ◌||◌, IfOk, IsOk};
-ghost use Rattle.vh_counted.specs.Steps.{total, at_interface, first_numbers, released, split_off, split_part, joined};
+ghost use Rattle.std.specs.Prelude.{◌≡◌, ◌≤◌, ◌<◌, ◌+◌, ◌-◌, ℕ, [], ◌∷◌, true, false, ◌||◌, IfOk};
+ghost use Rattle.vh_counted.specs.Steps.{IsWithinInterfaces, total, at_interface, first_numbers, released, split_off, split_part, joined};
 ghost use Rattle.vh_counted.specs.Objects.{IsWhole, AreSome, CountsFor, HasObject, Keeps};
 
 use crate::numbers::Numbers;
@@ -22,7 +22,8 @@ pub struct Object {
 #[error("no add is left to the holder")]
 pub struct TooMany;
 
-/// An object without a value.
+/// An object without a value. It may be dropped.
+#[derive(Drop)]
 pub struct Shell<T> {
     object: Object,
     of: PhantomData<T>,
@@ -41,13 +42,16 @@ pub struct Holder<T> {
     object: Object,
     numbers: Numbers,
     value: Option<T>,
+    ghost within: { IsWithinInterfaces object.interfaces numbers },
 }
 
-/// The opener of an object: the holder that has the value. It must be spent.
+/// The opener of an object: the holder that has the value, and at least one reference. It must be spent.
 pub struct Opened<T> {
     object: Object,
     numbers: Numbers,
     value: T,
+    ghost within: { IsWithinInterfaces object.interfaces numbers },
+    ghost some: { 1 ≤ total numbers },
 }
 
 /// An object that was ended, which the release that found one reference gives. It must be spent.
@@ -73,7 +77,6 @@ impl<T: Drop> Shell<T> {
         requires cap { cap ≤ 65535 }
         ensures interfaces { IfOk result (λ shell. (object_of_shell shell).interfaces ≡ interfaces) }
         ensures cap { IfOk result (λ shell. (object_of_shell shell).cap ≡ cap) }
-        ensures succeeds { IsOk result }
     {
         let _ = alloc;
         Ok(Shell {
@@ -114,7 +117,7 @@ impl<T: Drop> Counted<T> {
         requires iface { iface < (object_of self.now).interfaces }
         requires held { 1 ≤ total (numbers_of h.old) }
         requires plain { IsWhole (object_of self.now).cap (numbers_of h.old) }
-        ensures step { (n : ℕ) × CountsFor (object_of self.now).cap (numbers_of h.old) n × IsAdded iface n (numbers_of h.old) (numbers_of h.new) result }
+        ensures step { IsAdded (object_of self.now).cap iface (numbers_of h.old) (numbers_of h.new) result }
         ensures object { object_of_holder h.new ≡ object_of_holder h.old }
         ensures value { has_value h.new ≡ has_value h.old }
         ensures kept { Keeps (object_of self.now).cap (numbers_of h.old ∷ []) (numbers_of h.new ∷ []) }
@@ -128,7 +131,7 @@ impl<T: Drop> Counted<T> {
         requires iface { iface < (object_of self.now).interfaces }
         requires held { 1 ≤ total (numbers_of_opened o.old) }
         requires plain { IsWhole (object_of self.now).cap (numbers_of_opened o.old) }
-        ensures step { (n : ℕ) × CountsFor (object_of self.now).cap (numbers_of_opened o.old) n × IsAdded iface n (numbers_of_opened o.old) (numbers_of_opened o.new) result }
+        ensures step { IsAdded (object_of self.now).cap iface (numbers_of_opened o.old) (numbers_of_opened o.new) result }
         ensures object { object_of_opened o.new ≡ object_of_opened o.old }
         ensures value { value_of_opened o.new ≡ value_of_opened o.old }
         ensures kept { Keeps (object_of self.now).cap (numbers_of_opened o.old ∷ []) (numbers_of_opened o.new ∷ []) }
@@ -221,6 +224,24 @@ impl<T: Drop> Counted<T> {
         (holder, Ended { value })
     }
 
+    /// Gives the references of a whole opener back one after the other, and makes the last release.
+    pub fn end_whole(&self, o: Opened<T>) -> (Holder<T>, Ended<T>)
+        requires of_this { object_of_opened o ≡ object_of self.now }
+        requires whole { IsWhole (object_of self.now).cap (numbers_of_opened o) }
+        ensures object { object_of_holder result.0 ≡ object_of_opened o }
+        ensures ender { (numbers_of result.0).ender ≡ true }
+        ensures value { value_of_ended result.1 ≡ value_of_opened o }
+        ensures plain_value { has_value result.0 ≡ false }
+    {
+        let mut o = o;
+        for _ in 1..o.numbers.total() {
+            let iface = o.numbers.place();
+            self.release_open(&mut o, iface);
+        }
+        let iface = o.numbers.place();
+        self.end(o, iface)
+    }
+
     /// Moves references at an interface, and room, to a new holder.
     pub fn split(&self, h: &mut Holder<T>, iface: u32, n: u32, room: u32) -> Holder<T>
         requires of_this { object_of_holder h.old ≡ object_of self.now }
@@ -265,6 +286,7 @@ impl<T: Drop> Counted<T> {
     }
 
     /// Moves all that another holder has to a holder.
+    #[tactic(auto, using(crate::proofs::Beyond::beyond_joined))]
     pub fn join(&self, h: &mut Holder<T>, other: Holder<T>)
         requires of_this { object_of_holder h.old ≡ object_of self.now }
         requires other_too { object_of_holder other ≡ object_of self.now }
@@ -332,7 +354,7 @@ impl<T: Drop> Counted<T> {
     fn add(&self, numbers: &mut Numbers, iface: u32) -> Result<u64, TooMany>
         requires iface { iface < (object_of self.now).interfaces }
         requires plain { IsWhole (object_of self.now).cap numbers.old }
-        ensures step { (n : ℕ) × CountsFor (object_of self.now).cap numbers.old n × IsAdded iface n numbers.old numbers.new result }
+        ensures step { IsAdded (object_of self.now).cap iface numbers.old numbers.new result }
         ensures kept { Keeps (object_of self.now).cap (numbers.old ∷ []) (numbers.new ∷ []) }
     {
         if numbers.room == 0 {
@@ -352,10 +374,32 @@ fn count_of(numbers: &Numbers) -> u64
     1 + u64::from(numbers.adds) - u64::from(numbers.releases)
 }
 
+impl<T: Drop> Holder<T> {
+    ghost use Rattle.vh_counted.specs.Held.{object_of_holder, numbers_of};
+
+    /// How many references the holder has at an interface. It has none beyond its object's interfaces.
+    pub fn references(&self, iface: u32) -> u32
+        ensures count { result ≡ at_interface (numbers_of self.now) iface }
+        ensures within { IsWithinInterfaces (object_of_holder self.now).interfaces (numbers_of self.now) }
+    {
+        self.numbers.at(iface)
+    }
+}
+
 impl<T: Drop> Opened<T> {
-    ghost use Rattle.vh_counted.specs.Held.{value_of_opened, with_value};
+    ghost use Rattle.vh_counted.specs.Held.{object_of_opened, numbers_of_opened, value_of_opened, with_value};
     ghost use Rattle.std.specs.Borrow.{Lends, sem};
     ghost use Rattle.vh_counted.specs.contracts.object.Opened.{the_row};
+
+    /// How many references the opener has at an interface. It has none beyond its object's interfaces, and
+    /// at least one in all.
+    pub fn references(&self, iface: u32) -> u32
+        ensures count { result ≡ at_interface (numbers_of_opened self.now) iface }
+        ensures within { IsWithinInterfaces (object_of_opened self.now).interfaces (numbers_of_opened self.now) }
+        ensures some { 1 ≤ total (numbers_of_opened self.now) }
+    {
+        self.numbers.at(iface)
+    }
 
     /// The value.
     pub fn value(&self) -> &T

@@ -53,6 +53,33 @@ fn an_object_ends_with_its_last_reference(rt: HostRuntime) -> Result<(), Fail> {
 }
 
 #[test]
+fn references_are_given_back_to_the_last(rt: HostRuntime) -> Result<(), Fail> {
+    let (object, mut opener) = Shell::new(rt.alloc(), 4, 2)?.fill(4);
+    assert_eq!(rt; object.add_open(&mut opener, 2), Ok(2));
+    assert_eq!(rt; object.add_open(&mut opener, 2), Ok(3));
+    assert_eq!(rt;
+        [0, 1, 2, 3, 4].map(|iface| opener.references(iface)),
+        [1, 0, 2, 0, 0]
+    );
+    let part = object.part(&mut opener, 2, 1, 0);
+    assert_eq!(rt; part.references(2), 1);
+    assert_eq!(rt; part.references(0), 0);
+    object.join_open(&mut opener, part);
+    let (holder, ended) = object.end_whole(opener);
+    assert_eq!(rt; *ended.value(), 4);
+    ended.finish();
+    object.dissolve(holder);
+    Ok(())
+}
+
+#[test]
+fn a_shell_may_be_dropped(rt: HostRuntime) -> Result<(), Fail> {
+    let shell: Shell<u32> = Shell::new(rt.alloc(), 1, 0)?;
+    drop(shell);
+    Ok(())
+}
+
+#[test]
 fn the_opener_alone_ends_its_object(rt: HostRuntime) -> Result<(), Fail> {
     let (object, mut opener) = Shell::new(rt.alloc(), 1, 0)?.fill(5);
     assert_eq!(rt; object.add_open(&mut opener, 0), Err(TooMany));

@@ -6,6 +6,7 @@ use Rattle.vh_ids.specs.declared.tuid.Tuid.{Tuid}
 use Rattle.vh_ids.specs.Interfaces.{iid_of}
 use Rattle.vh_counted.specs.declared.numbers.Numbers.{Numbers}
 use Rattle.vh_counted.specs.Steps.{added}
+use Rattle.vh_counted.specs.Objects.{CountsFor}
 use Rattle.vh_query.specs.declared.interfaces.Interfaces.{Interfaces}
 use Rattle.vh_query.specs.declared.interfaces.QueryRefused.{QueryRefused}
 use Rattle.vh_query.specs.declared.interfaces.QueryRefused.TheVariants.{NoInterface, TooMany}
@@ -21,9 +22,9 @@ found_from at (k ∷ ks) id = if bytes_eq (iid_of k) id then Some at else found_
 abbrev pub found : List Interface → Tuid → Option ℕ
 found interfaces id = found_from 0 interfaces id.0
 
--- a query that finds the count n: the table lacks the identifier, or no room is left, or one reference is
--- added at the position found
-abbrev pub IsQueried : List Interface → Tuid → ℕ → Numbers → Numbers → Result ℕ QueryRefused → Type 0
-IsQueried interfaces id n old new (Ok position) = (found interfaces id ≡ Some position) × (0 < old.room) × (new ≡ added position (n + 1) old)
-IsQueried interfaces id n old new (Err NoInterface) = (found interfaces id ≡ None) × (new ≡ old)
-IsQueried interfaces id n old new (Err TooMany) = IsSome (found interfaces id) × (old.room ≡ 0) × (new ≡ old)
+-- a query: one reference is added at the position found, or the table lacks the identifier, or no room is left
+abbrev pub IsQueried : ℕ → List Interface → Tuid → Numbers → Numbers → Result ℕ QueryRefused → Type 0
+IsQueried cap interfaces id old new (Ok position) =
+    (found interfaces id ≡ Some position) × (0 < old.room) × ((n : ℕ) × CountsFor cap old n × (new ≡ added position (n + 1) old))
+IsQueried cap interfaces id old new (Err NoInterface) = (found interfaces id ≡ None) × (new ≡ old)
+IsQueried cap interfaces id old new (Err TooMany) = IsSome (found interfaces id) × (old.room ≡ 0) × (new ≡ old)

@@ -43,8 +43,9 @@ impl Interfaces {
     }
 
     /// The interfaces of a component.
+    #[tactic(auto, using(crate::proofs::Literals::component_table))]
     pub fn of_component() -> Interfaces
-        ensures { interfaces_of result ≡ Unknown ∷ PluginBase ∷ Component ∷ AudioProcessor ∷ ConnectionPoint ∷ [] }
+        ensures interfaces { interfaces_of result ≡ Unknown ∷ PluginBase ∷ Component ∷ AudioProcessor ∷ ConnectionPoint ∷ [] }
     {
         Interfaces::new(&[
             Interface::Unknown,
@@ -56,8 +57,9 @@ impl Interfaces {
     }
 
     /// The interfaces of a controller.
+    #[tactic(auto, using(crate::proofs::Literals::controller_table))]
     pub fn of_controller() -> Interfaces
-        ensures { interfaces_of result ≡ Unknown ∷ PluginBase ∷ EditController ∷ ConnectionPoint ∷ [] }
+        ensures interfaces { interfaces_of result ≡ Unknown ∷ PluginBase ∷ EditController ∷ ConnectionPoint ∷ [] }
     {
         Interfaces::new(&[
             Interface::Unknown,
@@ -83,7 +85,7 @@ impl Interfaces {
 
 impl Interfaces {
     ghost use Rattle.vh_counted.specs.Steps.{total, at_interface};
-    ghost use Rattle.vh_counted.specs.Objects.{IsWhole, CountsFor, Keeps};
+    ghost use Rattle.vh_counted.specs.Objects.{IsWhole, Keeps};
     ghost use Rattle.vh_counted.specs.Held.{object_of, object_of_holder, numbers_of, has_value, object_of_opened, numbers_of_opened, value_of_opened};
     ghost use Rattle.vh_query.specs.Found.{interfaces_of, IsQueried};
 
@@ -101,7 +103,7 @@ impl Interfaces {
         requires from { from < length (interfaces_of self.now) }
         requires held { 1 ≤ at_interface (numbers_of h.old) from }
         requires plain { IsWhole (object_of object.now).cap (numbers_of h.old) }
-        ensures step { (n : ℕ) × CountsFor (object_of object.now).cap (numbers_of h.old) n × IsQueried (interfaces_of self.now) id.now n (numbers_of h.old) (numbers_of h.new) result }
+        ensures step { IsQueried (object_of object.now).cap (interfaces_of self.now) id.now (numbers_of h.old) (numbers_of h.new) result }
         ensures object { object_of_holder h.new ≡ object_of_holder h.old }
         ensures value { has_value h.new ≡ has_value h.old }
         ensures kept { Keeps (object_of object.now).cap (numbers_of h.old ∷ []) (numbers_of h.new ∷ []) }
@@ -128,7 +130,7 @@ impl Interfaces {
         requires from { from < length (interfaces_of self.now) }
         requires held { 1 ≤ at_interface (numbers_of_opened o.old) from }
         requires plain { IsWhole (object_of object.now).cap (numbers_of_opened o.old) }
-        ensures step { (n : ℕ) × CountsFor (object_of object.now).cap (numbers_of_opened o.old) n × IsQueried (interfaces_of self.now) id.now n (numbers_of_opened o.old) (numbers_of_opened o.new) result }
+        ensures step { IsQueried (object_of object.now).cap (interfaces_of self.now) id.now (numbers_of_opened o.old) (numbers_of_opened o.new) result }
         ensures object { object_of_opened o.new ≡ object_of_opened o.old }
         ensures value { value_of_opened o.new ≡ value_of_opened o.old }
         ensures kept { Keeps (object_of object.now).cap (numbers_of_opened o.old ∷ []) (numbers_of_opened o.new ∷ []) }
