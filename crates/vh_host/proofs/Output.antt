@@ -6,7 +6,8 @@ use Rattle.std.proofs.lemmas.List.{length-append, length-map, length-take, lengt
 use Rattle.std.proofs.Math.Seq.{take-add}
 use Rattle.vh_files.specs.Causes.{Rose}
 use Rattle.vh_files.specs.Store.{Held, told, Lacks, HasNow, Grows, GrowsInPart}
-use Rattle.vh_wav.specs.Text.{frame_text, frames_text, frames_of, head_text, wav_text, data_size}
+use Rattle.vh_num.specs.Frames.{frames_of}
+use Rattle.vh_wav.specs.Text.{frame_text, frames_text, head_text, wav_text, data_size}
 use Rattle.vh_host.specs.SessionForm.{session_in}
 use Rattle.vh_session.specs.declared.fault.SessionKind.TheVariants.{TooLong}
 use Rattle.vh_session.specs.Reading.{fault, session_limit}

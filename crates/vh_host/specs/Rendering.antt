@@ -7,7 +7,8 @@ use Rattle.vh_wav.specs.declared.head.WavFault.{WavFault}
 use Rattle.vh_wav.specs.declared.head.WavFault.TheVariants.{OtherChannels}
 use Rattle.vh_wav.specs.Judged.{wav_head}
 use Rattle.vh_wav.specs.Samples.{sample_in}
-use Rattle.vh_wav.specs.Text.{Frame, wav_text}
+use Rattle.vh_num.specs.Frames.{Frame}
+use Rattle.vh_wav.specs.Text.{wav_text}
 
 -- the level of a gain that changes nothing, 2^23
 abbrev pub unity : ℕ

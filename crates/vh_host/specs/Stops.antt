@@ -5,7 +5,8 @@ use Rattle.vh_files.specs.Causes.{Rose}
 use Rattle.vh_files.specs.Store.{Held, Lacks, HasNow}
 use Rattle.vh_wav.specs.declared.head.Head.{Head}
 use Rattle.vh_wav.specs.Samples.{sample_in}
-use Rattle.vh_wav.specs.Text.{Frame, frames_text}
+use Rattle.vh_num.specs.Frames.{Frame}
+use Rattle.vh_wav.specs.Text.{frames_text}
 use Rattle.vh_host.specs.declared.status.Place.TheVariants.{Session, Input}
 use Rattle.vh_host.specs.declared.status.Status.{Status}
 use Rattle.vh_host.specs.declared.status.Status.TheVariants as status

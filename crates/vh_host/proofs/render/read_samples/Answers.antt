@@ -4,6 +4,7 @@ use Rattle.std.proofs.lemmas.List.{length-drop, length-take-le}
 use Rattle.vh_files.specs.Store.{told}
 use Rattle.vh_files.proofs.Chains.{OnlyRead-then}
 use Rattle.vh_wav.specs.Samples.{sample_in}
+use Rattle.vh_wav.proofs.Held.{samples_held}
 use Rattle.vh_host.proofs.Output.{length-put, put_below, put_within}
 use Rattle.vh_host.proofs.render.read_samples.Goals as goal
 
@@ -25,7 +26,7 @@ loop-done-preserved g c =
           let here : told (g.F.Files.held c.loop-done.files) c.args.name.now ≡ _ = ap (λ h. told h c.args.name.now) inv.2.held ∙ e in
           let j : ℕ = i - done in
           let place : done + j ≡ i = omega (arith, late) in
-          let holds = c.in_ok-read_frames.ensures.frames bytes here 0 j (omega (arith, c.requires.mono)) (omega (arith, place, below)) in
+          let holds = samples_held bytes c.args.head.now done n c.read_frames.new.out (c.in_ok-read_frames.ensures.frames bytes here) 0 j (omega (arith, c.requires.mono)) (omega (arith, place, below)) in
           let spot : 0 * n + j ≡ j = omega arith in
           put_within done n k c.loop-done.frames c.read_frames.new.out i same part within late below
           ∙ ap (λ m. get_or c.read_frames.new.out m (pos 0)) (sym spot) ∙ holds ∙ ap (sample_in bytes c.args.head.now 0) place)

@@ -1,5 +1,6 @@
 use Rattle.std.proofs.Common.{ap, ◌∙◌}
-use Rattle.vh_wav.specs.Text.{frames_text, frames_of}
+use Rattle.vh_num.specs.Frames.{frames_of}
+use Rattle.vh_wav.specs.Text.{frames_text}
 use Rattle.vh_host.proofs.Output.{gained_is}
 use Rattle.vh_host.proofs.render.render_piece.Goals as goal
 
