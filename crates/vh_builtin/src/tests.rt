@@ -114,6 +114,29 @@ fn block_agrees(
     )
 }
 
+/// Whether a message, which is sent now and then, is answered as by the plain program.
+fn reply_agrees(sound: &mut Sound, values: &[u32], plain: &mut Plain, random: &mut Random) -> bool
+    requires { AreValues (builtin (sound_number sound.old)).params values.now }
+    ensures { sound_number sound.new ≡ sound_number sound.old }
+{
+    if random.below(8) > 0 {
+        return true;
+    }
+    let message = random.message();
+    let value = values.first().copied().unwrap_or(0);
+    sound.notify(values, &message) == plain.told(value, &message)
+}
+
+/// Whether what a meter shows is what the plain program does.
+fn shown_agrees(sound: &Sound, plain: &Plain) -> bool {
+    match sound {
+        Sound::Meter(meter) => {
+            [i64::from(meter.shown(0)), i64::from(meter.shown(1))] == plain.shown()
+        }
+        _ => true,
+    }
+}
+
 /// So many aux samples, where the class has an aux bus.
 fn side_of(kind: Kind, samples: usize) -> usize
     ensures { (result ≡ 0) ⊎ ((result ≡ samples) × ((builtin (kind_number kind)).aux ≡ true)) }
@@ -124,7 +147,8 @@ fn side_of(kind: Kind, samples: usize) -> usize
     }
 }
 
-/// Whether so many blocks of random lengths and points agree, for a class and a number of channels.
+/// Whether so many blocks of random lengths and points agree, what is shown behind each, and the answers to
+/// messages between them, for a class and a number of channels.
 fn class_agrees(alloc: Global, kind: Kind, channels: u16, blocks: u32) -> Result<bool, AllocError>
     requires { (channels ≡ 1) ⊎ (channels ≡ 2) }
 {
@@ -156,6 +180,12 @@ fn class_agrees(alloc: Global, kind: Kind, channels: u16, blocks: u32) -> Result
             &aux,
             &mut out,
         )? {
+            return Ok(false);
+        }
+        if !shown_agrees(&sound, &plain) {
+            return Ok(false);
+        }
+        if !reply_agrees(&mut sound, &values, &mut plain, &mut random) {
             return Ok(false);
         }
     }
@@ -334,7 +364,8 @@ fn row_is_told(classes: &Classes, row: Row) -> bool {
         }
         None => false,
     };
-    told && info.aux == (class == 5)
+    let units = if class == 4 { 2 } else { 1 };
+    told && info.aux == (class == 5) && info.params.units().len() == units
 }
 
 #[test]

@@ -2,6 +2,7 @@
 
 use crate::kind::Kind;
 use std::alloc::{AllocError, Global};
+use vh_params::Words;
 
 /// What a class keeps: a delay all of its numbers, the others up to three.
 #[derive(Drop)]
@@ -168,10 +169,36 @@ impl Plain {
         }
     }
 
-    /// What it answers the message 1, or the message 0.
-    pub fn heard(&self) -> [i64; 3] {
-        [self.first, self.second, self.third]
+    /// What it answers a message, which is sent with this value of the first parameter.
+    pub fn told(&mut self, value: u32, message: &Words) -> Words {
+        match (self.kind, message.numbers()) {
+            (Kind::Delay, [1]) => {
+                self.kept.clear();
+                self.kept_right.clear();
+                Words::new(&[1])
+            }
+            (Kind::Meter, [1]) => {
+                let peaks = Words::new(&[word_of(self.first), word_of(self.second)]);
+                self.first = 0;
+                self.second = 0;
+                peaks
+            }
+            (Kind::Tap, [0]) => Words::new(&[word_of(self.first)]),
+            (Kind::Tap, [1]) => Words::new(&[word_of(self.second), word_of(self.third)]),
+            (Kind::Tap, [2]) => Words::new(&[value]),
+            _ => Words::new(&[]),
+        }
     }
+
+    /// What a meter shows.
+    pub fn shown(&self) -> [i64; 2] {
+        [self.first.wrapping_mul(2), self.second.wrapping_mul(2)]
+    }
+}
+
+/// A number as a word, in two's complement.
+fn word_of(x: i64) -> u32 {
+    u32::try_from(x.rem_euclid(4_294_967_296)).unwrap_or(0)
 }
 
 fn pole(z: i64, x: i64, cutoff: i64) -> i64 {

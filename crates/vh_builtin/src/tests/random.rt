@@ -5,6 +5,7 @@ ghost use Rattle.vh_points.specs.Model.{queues_of};
 
 use std::alloc::{AllocError, Global};
 use vh_num::ONE;
+use vh_params::Words;
 use vh_points::Points;
 
 /// A linear congruence.
@@ -53,6 +54,18 @@ impl Random {
             samples[i] = self.sample();
         }
         Ok(samples)
+    }
+
+    /// A message, which some class answers.
+    pub fn message(&mut self) -> Words {
+        match self.below(6) {
+            0 => Words::new(&[0]),
+            1 => Words::new(&[1]),
+            2 => Words::new(&[2]),
+            3 => Words::new(&[3]),
+            4 => Words::new(&[1, 1]),
+            _ => Words::new(&[]),
+        }
     }
 
     /// Points at any offset below a size, of the first parameters.
