@@ -1,0 +1,6 @@
+pub mod First
+pub mod Faults
+pub mod Written
+pub mod ReadBack
+pub mod Ids
+pub mod Presets
