@@ -1,0 +1,112 @@
+"""Writes preset files, whole, changed and random ones, the same in each run, and compares what vh_preset reads in each
+and writes anew, by preset_check, with preset_reference."""
+import pathlib
+import random
+import struct
+import subprocess
+import sys
+import tempfile
+
+from preset_reference import HEX_DIGITS, WRITTEN_IDS, answer, file_of
+from tally import Tally
+
+TOP = pathlib.Path(__file__).resolve().parent.parent
+CRATE = TOP / "crates/preset_check"
+PROGRAM = CRATE / "out/preset_check"
+PRESETS = 4000
+AT_ONCE = 500
+PICK = random.Random(2026)
+IDS = WRITTEN_IDS + [b"comp", b"Some", b"\0\0\0\0", b"List"]
+BYTES = [0, 1, 0x2F, 0x30, 0x39, 0x3A, 0x40, 0x41, 0x46, 0x47, 0x60, 0x61, 0x66, 0x67, 0x7F, 0x80, 0xFF]
+
+
+def build():
+    sources = [path for path in TOP.glob("crates/*/src/**/*.rt")]
+    newest = max(path.stat().st_mtime for path in sources)
+    if not PROGRAM.exists() or PROGRAM.stat().st_mtime < newest:
+        subprocess.run(["rt", "run"], cwd=CRATE, stdin=subprocess.DEVNULL, stdout=subprocess.DEVNULL, stderr=subprocess.DEVNULL)
+    return PROGRAM.exists()
+
+
+def number(size, near):
+    """A number of so many bytes, most often one near a limit."""
+    most = 2 ** (8 * size) - 1
+    some = PICK.choice([0, 1, 48, near, near, most, most // 2, most - near, PICK.randint(0, most)])
+    return min(max(some + PICK.choice([-20, -8, -1, 0, 0, 0, 1, 8, 20]), 0), most)
+
+
+def canonical():
+    """A file as vh_preset writes them."""
+    names = PICK.sample(WRITTEN_IDS, PICK.randint(0, 4))
+    return file_of(PICK.randbytes(16), {name: PICK.randbytes(PICK.choice([0, 1, 20, 60])) for name in names})
+
+
+def crowded():
+    """A file whose chunks overlap, repeat ids, and may lie anywhere."""
+    body = PICK.randbytes(PICK.choice([0, 5, 40]))
+    behind = PICK.randbytes(PICK.choice([0, 0, 3]))
+    count = PICK.choice([0, 1, 2, 5, 127, 128, 129])
+    at = 48 + len(body)
+    size = at + 8 + 20 * count + len(behind)
+    entries = b""
+    for _ in range(count):
+        start = PICK.randint(48, size)
+        entries += struct.pack("<4sQQ", PICK.choice(IDS), start, PICK.choice([0, size - start, PICK.randint(0, size - start)]))
+    digits = bytes(PICK.choice(sorted(HEX_DIGITS)) for _ in range(32))
+    version = PICK.choice([1, 1, 2, 2**31 - 1])
+    return struct.pack("<4sI32sQ", b"VST3", version, digits, at) + body + struct.pack("<4sI", b"List", count) + entries + behind
+
+
+def changed(data):
+    """The file with a change: of a byte, of a field, or of its size."""
+    data = bytearray(data)
+    listed = struct.unpack_from("<Q", data, 40)[0]
+    fields = [(4, 4), (40, 8), (listed + 4, 4)] + [(at, 8) for at in range(listed + 12, len(data) - 7) if (at - listed - 12) % 20 in (0, 8)]
+    change = PICK.randrange(8)
+    if change == 0:
+        data[PICK.randrange(len(data))] = PICK.choice(BYTES)
+    elif change == 1:
+        data[PICK.randrange(48)] = PICK.choice(BYTES)
+    elif change == 2:
+        data[PICK.randrange(8, 40)] = PICK.choice(BYTES)
+    elif change == 3:
+        data[PICK.randrange(listed, listed + 8)] = PICK.choice(BYTES)
+    elif change == 4:
+        del data[PICK.randrange(len(data)) :]
+    else:
+        at, size = PICK.choice(fields)
+        data[at : at + size] = number(size, PICK.choice([len(data), listed, 128])).to_bytes(size, "little")
+    return bytes(data)
+
+
+def preset():
+    kind = PICK.random()
+    if kind < 0.05:
+        return PICK.randbytes(PICK.randint(0, 200))
+    data = PICK.choice([canonical, crowded])()
+    for _ in range(PICK.choice([0, 1, 1, 1, 2])):
+        if len(data) >= 56 and struct.unpack_from("<Q", data, 40)[0] + 8 <= len(data):
+            data = changed(data)
+    return data
+
+
+def main():
+    if not build():
+        print("checks: preset_check can't be built")
+        return 1
+    tally = Tally()
+    with tempfile.TemporaryDirectory() as folder:
+        for first in range(0, PRESETS, AT_ONCE):
+            files = {f"p{i}": preset() for i in range(first, first + AT_ONCE)}
+            for name, data in files.items():
+                (pathlib.Path(folder) / name).write_bytes(data)
+            done = subprocess.run([PROGRAM, *files], cwd=folder, stdin=subprocess.DEVNULL, capture_output=True)
+            said = done.stdout.decode().split("file ")
+            tally.expect(f"presets from {first} on", (done.returncode, len(said) - 1), (0, AT_ONCE))
+            for part, (name, data) in zip(said[1:], files.items()):
+                tally.expect(f"random preset {name}", part.splitlines(), [name] + answer(data))
+    return tally.close("random presets")
+
+
+if __name__ == "__main__":
+    sys.exit(main())
