@@ -8,3 +8,4 @@ pub mod Lanes
 pub mod Wires
 mod Examples
 pub mod Blocks
+pub mod Answering

@@ -1,5 +1,5 @@
 -- Laws of the definitions, in the subject's own words.
-use Rattle.std.specs.Prelude.{◌≡◌, ◌≢◌, ◌<◌, ◌≤◌, ℕ, ◌+◌, true, false, List, [], ◌∷◌, ◌++◌, length, slice_index_or, All, Some, None}
+use Rattle.std.specs.Prelude.{◌≡◌, ◌≢◌, ◌<◌, ◌≤◌, ℕ, ◌+◌, true, false, List, [], ◌∷◌, ◌++◌, length, map, slice_index_or, All, Some, None}
 use Rattle.std.specs.List.Sorted.{IsPermutation}
 use Rattle.vh_graph.specs.Order.{IsOrder}
 use Rattle.vh_num.specs.Values.{quant_of}
@@ -18,7 +18,7 @@ use Rattle.vh_meaning.specs.Values.{value_of, values_at}
 use Rattle.vh_meaning.specs.Mix.{is_at}
 use Rattle.vh_meaning.specs.Frames.{frame_of}
 use Rattle.vh_meaning.specs.World.{silence, input_at, world, after, frame_at}
-use Rattle.vh_meaning.specs.Rendering.{out_at, answers, message_sample}
+use Rattle.vh_meaning.specs.Rendering.{out_at, answers, message_sample, stops}
 use Rattle.vh_meaning.specs.Stands.{Standing, StandsFor, touches_at}
 use Rattle.vh_meaning.specs.Steps.{touches_through, values_now, applied, moved_on, frames_now}
 use Rattle.vh_meaning.specs.Trace.{IsConsistent, IsTrace}
@@ -148,6 +148,10 @@ abbrev pub OnlyItsParameter : Type 0
 OnlyItsParameter = (scene : Scene) (before later : List Entry) (entry : Entry) (node : ℕ) (param : Param) (first s : ℕ)
     → IsElsewhere node param.id entry.command
     → value_of scene (before ++ entry ∷ later) node param first s ≡ value_of scene (before ++ later) node param first s
+
+-- Each message has its answer, in the entries' order and at its sample, and nothing else has one.
+abbrev pub EachIsAnswered : Type 0
+EachIsAnswered = (scene : Scene) (input : List Frame) (h : List Entry) → map (λ answer. answer.sample) (answers scene input h) ≡ stops h
 
 -- the scene with its wires in another order
 abbrev pub with_wires : Scene → List Wire → Scene

@@ -12,6 +12,7 @@ ghost use Rattle.vh_meaning.specs.Laws.{
   LastWithoutLane,
   LaneWhileOpen,
   OnlyItsParameter,
+  EachIsAnswered,
   AnyOrderOfWires,
   SilenceWithoutOut,
 };
@@ -97,6 +98,11 @@ pub fn lane_while_open()
 /// An entry on one parameter changes no other's value.
 pub fn only_its_parameter()
     ensures { OnlyItsParameter }
+{}
+
+/// Each message has its answer, in the entries' order and at its sample.
+pub fn each_is_answered()
+    ensures { EachIsAnswered }
 {}
 
 /// The order of the wires doesn't matter.
