@@ -4,7 +4,8 @@ use Rattle.vh_params.specs.declared.command.Command.{Command}
 use Rattle.vh_params.specs.declared.command.Command.TheVariants.{Begin, Perform, End, Tell}
 use Rattle.vh_params.specs.declared.label.Words.{Words}
 use Rattle.vh_params.specs.Short.{words_in}
-use Rattle.vh_plugin.specs.Class.{Param, State, Frame}
+use Rattle.vh_num.specs.Frames.{Frame}
+use Rattle.vh_plugin.specs.Class.{Param, State}
 use Rattle.vh_session.specs.Entry.{LaneText}
 use Rattle.vh_session.specs.declared.wire.End.TheVariants.{In, Node as AtNode}
 use Rattle.vh_session.specs.declared.wire.Wire.{Wire}
