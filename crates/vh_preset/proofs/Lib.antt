@@ -1,3 +1,4 @@
+mod Classes
 pub mod First
 pub mod Faults
 pub mod Written
