@@ -1,2 +1,3 @@
 mod WireSets
 mod Counting
+mod Rows

@@ -1,3 +1,4 @@
 pub mod Wires
 pub mod Switches
 pub mod Modes
+pub mod Rows

@@ -2,6 +2,9 @@ ghost use Rattle.std.specs.Prelude.{◌≡◌, ◌<◌, ◌≤◌, ◌+◌, ◌-
 ghost use Rattle.vh_component.specs.declared.setup.Phase.TheVariants.{Processing};
 ghost use Rattle.vh_points.specs.Model.{queues_of, queue_room, point_room};
 
+mod callers;
+
+use self::callers::{brought, two_in_a_row};
 use super::{Switch, set_of_switches, set_of_wires};
 use std::test::Fail;
 use vh_component::{Created, Layout, Setup};
@@ -135,5 +138,50 @@ fn a_switch_lives(rt: HostRuntime) -> Result<(), Fail> {
     assert_eq!(rt; (refused, taken), (false, true));
     assert_eq!(rt; bytes_then?.as_slice(), [5, 0, 0, 0].as_slice());
     assert_eq!(rt; (set.made(), set.ended(), set.work()), (1, 1, 4));
+    Ok(())
+}
+
+/// Plays two blocks of one channel.
+fn play_two(switch: &mut Switch, points: &Points, out: &mut [i32; 2], later_out: &mut [i32; 3])
+    requires processing { switch.old.phase ≡ Processing }
+    requires channels { switch.old.setup.channels ≡ 1 }
+    requires max { 4 ≤ switch.old.setup.max }
+    requires none { queues_of points.now ≡ [] }
+    ensures phase { switch.new.phase ≡ Processing }
+{
+    two_in_a_row(
+        switch,
+        2,
+        points,
+        &[1, 2],
+        out,
+        3,
+        points,
+        &[3, 4, 5],
+        later_out,
+    );
+}
+
+#[test]
+fn two_blocks_stand_in_a_row(rt: HostRuntime) -> Result<(), Fail> {
+    let alloc = rt.alloc();
+    let mut set = set_of_switches(alloc, b"switch")?;
+    let points = Points::new(alloc, 0, 0)?;
+    let setup = Setup {
+        channels: 1,
+        max: 4,
+    };
+    let (mut out, mut later_out) = ([0; 2], [0; 3]);
+    let (object, mut processing) = brought(alloc, &mut set, 0, true, &setup)?;
+    let calls_before = processing.value().calls();
+    play_two(processing.value_mut(), &points, &mut out, &mut later_out);
+    let seen = processing.value_mut().notify(&[0, 0], &Words::new(&[]));
+    let opener = processing.stop().deactivate().terminate();
+    let (holder, ended) = object.end(opener, 0);
+    set.end_component(ended);
+    object.dissolve(holder);
+    assert_eq!(rt; (out, later_out), ([1, 2], [3, 4, 5]));
+    assert_eq!(rt; seen, Words::new(&[5]));
+    assert_eq!(rt; (calls_before, set.work()), (0, 2));
     Ok(())
 }
