@@ -1,5 +1,7 @@
 -- The words of a line.
-use Rattle.std.specs.Prelude.{◌≡◌, ℕ, suc, ◌+◌, Bool, false, not, ◌&&◌, ◌==◌, nat_le, ◌-◌, List, [], ◌∷◌, map, take, drop, slice_index_or, Option, Some, None, Result, Ok, Err, Vec, if◌then◌else◌}
+use Rattle.std.specs.Prelude.{◌≡◌, ⊤, ◌≤◌, ℕ, suc, ◌+◌, Bool, false, not, ◌&&◌, ◌==◌, nat_le, ◌-◌, List, [], ◌∷◌, length, map, take, drop, slice_index_or, All, Option, Some, None, Result, Ok, Err, Vec, if◌then◌else◌}
+use Rattle.std.specs.Borrow.{Bor}
+use Rattle.std.specs.declared.alloc.Global.{Global}
 use Rattle.vh_num.specs.declared.refusal.Refusal.{Refusal}
 use Rattle.vh_num.specs.declared.refusal.Refusal.TheVariants.{Fault, Memory}
 use Rattle.vh_text.specs.declared.token.Token.{Token}
@@ -51,8 +53,22 @@ words_of line = map (λ token. take (token.to - token.from) (drop token.from lin
 abbrev pub first_word : List ℕ → List ℕ
 first_word line = slice_index_or (words_of line) 0 []
 
+-- at least one byte, all printable and none a space
+abbrev pub IsWord : List ℕ → Type 0
+IsWord text = (1 ≤ length text) × All (λ b. (33 ≤ b) × (b ≤ 126)) text
+
 -- a line is told in tokens, or refused for its first bad byte
 abbrev pub IsTokenized : {A : Type 0} → List ℕ → Result (Vec Token A) (Refusal BadByte) → Type 0
 IsTokenized line (Ok tokens) = (bad_byte line ≡ None) × (tokens.items ≡ tokens_of line)
 IsTokenized line (Err (Fault fault)) = bad_byte line ≡ Some fault
 IsTokenized line (Err Memory) = bad_byte line ≡ None
+
+-- texts by reference, as texts
+abbrev pub texts : List (Bor (List ℕ)) → List (List ℕ)
+texts words = map (λ word. word.now) words
+
+-- a line is split into its words, or refused for its first bad byte
+abbrev pub IsSplit : List ℕ → Result (Vec (Bor (List ℕ)) Global) (Refusal BadByte) → Type 0
+IsSplit line (Ok words) = (bad_byte line ≡ None) × (texts words.items ≡ words_of line)
+IsSplit line (Err (Fault fault)) = bad_byte line ≡ Some fault
+IsSplit line (Err Memory) = bad_byte line ≡ None

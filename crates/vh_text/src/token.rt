@@ -36,7 +36,7 @@ pub fn tokens(alloc: Global, line: &[u8]) -> Result<Vec<Token>, Refusal<BadByte>
 }
 
 /// The first word of a line, empty where there is none.
-#[tactic(auto, using(crate::proofs::Words::no_word, crate::proofs::Words::word_here))]
+#[tactic(auto, using(crate::proofs::Tokenized::no_word, crate::proofs::Tokenized::word_here))]
 pub fn first_word(line: &[u8]) -> &[u8]
     ensures { result.now ≡ first_word line.now }
 {
@@ -61,7 +61,7 @@ fn bad_byte(line: &[u8]) -> Option<BadByte>
     None
 }
 
-#[tactic(auto, using(crate::proofs::Words::word_told))]
+#[tactic(auto, using(crate::proofs::Tokenized::word_told))]
 fn words(alloc: Global, line: &[u8]) -> Result<Vec<Token>, AllocError>
     requires { length line.now < 2 ^ 32 }
     ensures { IfOk result (λ tokens. tokens.items ≡ tokens_of line.now) }
