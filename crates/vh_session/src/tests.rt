@@ -1,7 +1,7 @@
 use super::{End, SessionFault, SessionKind, first_preset, laws, read};
 use std::alloc::Global;
 use std::test::Fail;
-use vh_cut::pieces;
+use vh_cut::{Piece, pieces};
 use vh_ids::Tuid;
 use vh_num::Refusal;
 use vh_params::{
@@ -247,8 +247,12 @@ fn wires_sizes_and_the_first_preset(rt: HostRuntime) -> Result<(), Fail> {
     assert_eq!(rt; aux.as_slice(), &[End::Node(0), End::In][..]);
     let out = session.sources(alloc, End::Out, false)?;
     assert_eq!(rt; out.as_slice(), &[End::Node(1)][..]);
-    let blocks = pieces(session.length, session.block_sizes(), &[]);
-    assert_eq!(rt; blocks.count(), 3);
+    let mut blocks = pieces(session.length, session.block_sizes(), &[]);
+    let first = Piece {
+        start: 0,
+        length: 3,
+    };
+    assert_eq!(rt; blocks.next(), Some(first));
     assert_eq!(rt; first_preset(text), Some(10));
     assert_eq!(rt; first_preset(b"# preset\npresets e f"), None);
     laws::printed_is_read();
