@@ -7,7 +7,7 @@ use Rattle.vh_text.specs.Numbers.{number_of}
 use Rattle.vh_params.specs.declared.class.ClassInfo.{ClassInfo}
 use Rattle.vh_params.specs.declared.param.ParamInfo.{ParamInfo}
 use Rattle.vh_params.specs.Nodes.{Node, info_in}
-use Rattle.vh_params.specs.Params.{has_flag}
+use Rattle.vh_params.specs.Flags as flags
 use Rattle.vh_params.specs.Short.{label_text}
 use Rattle.vh_session.specs.declared.fault.SessionKind.{SessionKind}
 use Rattle.vh_session.specs.declared.fault.SessionKind.TheVariants.{BadNumber, Missing, Extra, UnknownNode, UnknownClass, UnknownParam, ReadOnlyParam}
@@ -77,10 +77,10 @@ abbrev pub the_param : List Node → ℕ → List ℕ → Checked ParamInfo
 the_param nodes node text = given (any_number text) (λ id. ok_or (info_in nodes node id) UnknownParam)
 
 abbrev pub is_read_only : ParamInfo → Bool
-is_read_only param = has_flag 2 param
+is_read_only param = flags.is_read_only param.flags
 
 abbrev pub can_automate : ParamInfo → Bool
-can_automate param = has_flag 1 param
+can_automate param = flags.is_automatable param.flags
 
 -- a parameter of a node that can be set
 abbrev pub settable_param : List Node → ℕ → List ℕ → Checked ParamInfo
