@@ -240,6 +240,7 @@ fn what_is_written_is_read(rt: HostRuntime) -> Result<(), Fail> {
             prog: chosen(number, 4, b""),
             info: chosen(number, 8, b"<?xml?>"),
         };
+        assert!(rt; chunks.fit());
         let preset = read(alloc, write(alloc, &GAIN, &chunks)?)?;
         assert_eq!(rt; preset.class, GAIN);
         assert_eq!(rt; preset.version, 1);
