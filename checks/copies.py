@@ -3,6 +3,7 @@ compares the samples that Python's `wave` and, where they are there, sox and ffm
 put in. Programs of packages that are missing are skipped."""
 import pathlib
 import shutil
+import struct
 import subprocess
 import sys
 import tempfile
@@ -95,6 +96,15 @@ def check_wave(work):
                 check_copy(f"{frames} frames of {channels} channels of {bits} bits", folder, samples, channels, bits, 44100)
 
 
+def check_extensible(work):
+    """The extensible form, with a chunk of odd size before the samples."""
+    folder = pathlib.Path(tempfile.mkdtemp(dir=work))
+    head = struct.pack("<4sI4s4sIHHIIHHHHIH", b"RIFF", 80, b"WAVE", b"fmt ", 40, 65534, 2, 44100, 264600, 6, 24, 22, 24, 3, 1)
+    behind = bytes.fromhex("000000001000800000aa00389b71") + struct.pack("<4sI5sx4sI", b"LIST", 5, b"abcde", b"data", 6)
+    (folder / "in.wav").write_bytes(head + behind + in_bytes([1, -1], 3))
+    check_copy("the extensible form", folder, [1, -1], 2, 24, 44100)
+
+
 def check_sox(work):
     for bits in [16, 24]:
         for channels in [1, 2]:
@@ -120,6 +130,7 @@ def main():
         return 0
     with tempfile.TemporaryDirectory() as work:
         check_wave(work)
+        check_extensible(work)
         if shutil.which("sox"):
             check_sox(work)
         if shutil.which("ffmpeg"):

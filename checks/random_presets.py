@@ -1,5 +1,5 @@
 """Writes preset files, whole, changed and random ones, the same in each run, and compares what vh_preset reads in each
-and writes anew, by preset_check, with preset_reference."""
+and writes anew, by preset_check, with preset_reference. Rows of changes of one field have their faults beside them."""
 import pathlib
 import random
 import struct
@@ -18,6 +18,59 @@ AT_ONCE = 500
 PICK = random.Random(2026)
 IDS = WRITTEN_IDS + [b"comp", b"Some", b"\0\0\0\0", b"List"]
 BYTES = [0, 1, 0x2F, 0x30, 0x39, 0x3A, 0x40, 0x41, 0x46, 0x47, 0x60, 0x61, 0x66, 0x67, 0x7F, 0x80, 0xFF]
+
+# as a host writes it: the states of a component and of its controller, and meta data
+HOST = bytes.fromhex("5653543301000000") + b"0123456789ABCDEF0123456789ABCDEF" + struct.pack("<Q", 59) + b"abcdefg<x/>List" + struct.pack(
+    "<I4sQQ4sQQ4sQQ", 3, b"Comp", 48, 4, b"Cont", 52, 2, b"Info", 54, 5
+)
+MOST = 8 * b"\xff"
+CHANGES = [  # a place, the bytes that stand there then, and the fault
+    (0, b"W", "BadMagic"),
+    (3, b"4", "BadMagic"),
+    (4, b"\0", "BadVersion"),
+    (4, b"\x02", None),
+    (4, b"\xff\xff\xff\x7f", None),
+    (4, b"\0\0\0\x80", "BadVersion"),
+    (8, b"/", "BadClassId(8)"),
+    (8, b"g", "BadClassId(8)"),
+    (9, b"f", None),
+    (38, b":G", "BadClassId(38)"),
+    (39, b"@", "BadClassId(39)"),
+    (40, b"\x2f", "BadListOffset"),
+    (40, b"\x3a", "BadListId"),
+    (40, b"\x3c", "BadListId"),
+    (40, b"\x77", "BadListId"),
+    (40, b"\x78", "BadListOffset"),
+    (40, MOST, "BadListOffset"),
+    (47, b"\x80", "BadListOffset"),
+    (59, b"M", "BadListId"),
+    (62, b"u", "BadListId"),
+    (63, b"\x02", None),
+    (63, b"\x04", "BadCount(4)"),
+    (63, MOST[:4], "BadCount(4294967295)"),
+    (66, b"\x80", "BadCount(2147483651)"),
+    (67, b"D", None),
+    (71, b"\x2f", "BadRange(0)"),
+    (71, b"\x31", None),
+    (71, b"\x7b", None),
+    (71, b"\x7c", "BadRange(0)"),
+    (71, MOST, "BadRange(0)"),
+    (79, b"\x4f", None),
+    (79, b"\x50", "BadRange(0)"),
+    (79, MOST, "BadRange(0)"),
+    (111, b"\x7f\0\0\0\0\0\0\0\0", None),
+    (111, b"\x80\0\0\0\0\0\0\0\0", "BadRange(2)"),
+    (119, b"\x4a", "BadRange(2)"),
+]
+IN_TURN = [  # changes one upon another, each with a fault that comes before those of the former
+    (71, b"\0", "BadRange(0)"),
+    (63, b"\x09", "BadCount(9)"),
+    (59, b"l", "BadListId"),
+    (40, b"\0", "BadListOffset"),
+    (20, b" ", "BadClassId(20)"),
+    (4, b"\0", "BadVersion"),
+    (0, b"v", "BadMagic"),
+]
 
 
 def build():
@@ -90,21 +143,56 @@ def preset():
     return data
 
 
+def with_field(data, at, field):
+    return data[:at] + field + data[at + len(field) :]
+
+
+def rows():
+    """Files, each with what preset_check first says of it where it has a fault."""
+    found = [(with_field(HOST, at, field), fault) for at, field, fault in CHANGES]
+    data = HOST
+    for at, field, fault in IN_TURN:
+        data = with_field(data, at, field)
+        found.append((data, fault))
+    empty = file_of(bytes(16), {})
+    found += [(empty[:size], "Short" if size < 48 else "BadListOffset") for size in range(len(empty))]
+    for count, fault in [(128, None), (129, "BadCount(129)")]:
+        found.append((empty[:52] + struct.pack("<I", count) + count * struct.pack("<4sQQ", b"Some", 48, 0), fault))
+    return found + [(HOST, None)]
+
+
+def said_of(folder, files):
+    """The lines that preset_check says of each file, by its name."""
+    for name, data in files.items():
+        (pathlib.Path(folder) / name).write_bytes(data)
+    done = subprocess.run([PROGRAM, *files], cwd=folder, stdin=subprocess.DEVNULL, capture_output=True)
+    parts = [part.splitlines() for part in done.stdout.decode().split("file ")[1:]]
+    return done.returncode, {lines[0]: lines[1:] for lines in parts}
+
+
+def check_rows(tally, folder):
+    files = {f"row{i}": data for i, (data, _) in enumerate(rows())}
+    status, said = said_of(folder, files)
+    tally.expect("rows", (status, len(said)), (0, len(files)))
+    for (name, data), (_, fault) in zip(files.items(), rows()):
+        lines = said.get(name, [])
+        tally.expect(name, lines, answer(data))
+        tally.expect(f"{name}'s fault", lines[:1] == [f"refused {fault}"] if fault else lines[0].startswith("preset "), True)
+
+
 def main():
     if not build():
         print("checks: preset_check can't be built")
         return 1
     tally = Tally()
     with tempfile.TemporaryDirectory() as folder:
+        check_rows(tally, folder)
         for first in range(0, PRESETS, AT_ONCE):
             files = {f"p{i}": preset() for i in range(first, first + AT_ONCE)}
+            status, said = said_of(folder, files)
+            tally.expect(f"presets from {first} on", (status, len(said)), (0, AT_ONCE))
             for name, data in files.items():
-                (pathlib.Path(folder) / name).write_bytes(data)
-            done = subprocess.run([PROGRAM, *files], cwd=folder, stdin=subprocess.DEVNULL, capture_output=True)
-            said = done.stdout.decode().split("file ")
-            tally.expect(f"presets from {first} on", (done.returncode, len(said) - 1), (0, AT_ONCE))
-            for part, (name, data) in zip(said[1:], files.items()):
-                tally.expect(f"random preset {name}", part.splitlines(), [name] + answer(data))
+                tally.expect(f"random preset {name}", said.get(name), answer(data))
     return tally.close("random presets")
 
 

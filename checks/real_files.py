@@ -144,17 +144,33 @@ def check_examples():
         expect(f"{path.name} again", run(folder, ["check", "again"]), (0, said))
 
 
+DEPARTING = [  # the index of a line, a line in its place that a session may not have yet, and the fault's number
+    (0, "vsthost session 2", 1),
+    (0, " vsthost session 1", 1),
+    (1, "length 16777217", 21),
+    (1, "length 03", 21),
+    (1, "length  3", 21),
+    (1, "length 12345678901", 21),
+    (1, "length ", 21),
+    (2, "channels 2", 21),
+    (3, "bits 24", 21),
+    (4, "pattern 0", 21),
+    (4, "pattern 8193", 21),
+    (4, "pattern 64\r", 21),
+    (5, "node a delay", 21),
+    (5, "node in gain", 21),
+    (5, "node a gain\r", 21),
+    (6, "wire in b", 21),
+    (7, "wire b out", 21),
+]
+# sizes without a line's end, and with it, the line that departs, and the fault's number
+ENDING_EARLY = [(0, 1, 1), (17, 1, 21), (18, 2, 21), (26, 2, 21), (27, 3, 21), (38, 4, 21), (46, 5, 21), (57, 6, 21), (69, 7, 21), (79, 8, 21), (89, 8, 21)]
+
+
 def check_refusals():
     good = wav([0, 1000, -1])
     rows = [
-        ("bits 24", session({3: "bits 24"}), good, 2, "refused session 4 21\n"),
-        ("seven lines", session(lines=7), good, 2, "refused session 8 21\n"),
-        ("another header", session({0: "vsthost session 2"}), good, 2, "refused session 1 1\n"),
-        ("an empty session", b"", good, 2, "refused session 1 1\n"),
-        ("no last line end", session()[:-1], good, 2, "refused session 8 21\n"),
         ("a ninth line", session() + b"\n", good, 2, "refused session 9 21\n"),
-        ("a leading zero", session({1: "length 03"}), good, 2, "refused session 2 21\n"),
-        ("a return", session({5: "node a gain\r"}), good, 2, "refused session 6 21\n"),
         ("too many bytes", b"x" * 33554433, good, 2, "refused session 0 20\n"),
         ("the most bytes", b"x" * 33554432, good, 2, "refused session 1 1\n"),
         ("no RIFF", session(), wav([1], riff=b"RIFX"), 3, "refused wav 1\n"),
@@ -165,6 +181,10 @@ def check_refusals():
         ("a short file", session(), good[:-1], 3, "refused wav 6\n"),
         ("two channels", session(), wav([1, 2], channels=2), 3, "refused wav 7\n"),
     ]
+    for index, line, kind in DEPARTING:
+        rows.append((line, session({index: line}), good, 2, f"refused session {index + 1} {kind}\n"))
+    for size, line, kind in ENDING_EARLY:
+        rows.append((f"{size} bytes", session()[:size], good, 2, f"refused session {line} {kind}\n"))
     for name, text, sound, status, said in rows:
         folder = folder_with({"s": text, "in.wav": sound})
         expect(name, run(folder, RENDER), (status, said))
@@ -173,6 +193,62 @@ def check_refusals():
     for words in [[], ["render"], ["render", "s", "in.wav"], ["check"], ["check", "s", "a"], ["check", "s", "a", "b"], RENDER + ["block=0"], RENDER + ["x", "y"], [b"render", b"\xff", b"in.wav", b"out.wav"]]:
         expect(f"words {words}", run(folder, words), (1, "refused usage\n"))
         expect(f"words {words}", list(folder.iterdir()), [])
+
+
+MONO = wav([0, 1000, -1])
+# one frame of two channels with 24 bits in the extensible form, and a chunk of odd size before the samples
+STEREO = (
+    struct.pack("<4sI4s4sIHHIIHHHHIH", b"RIFF", 80, b"WAVE", b"fmt ", 40, 65534, 2, 44100, 264600, 6, 24, 22, 24, 3, 1)
+    + bytes.fromhex("000000001000800000aa00389b71")
+    + struct.pack("<4sI5sx4sI6s", b"LIST", 5, b"abcde", b"data", 6, b"\1\0\0\xff\xff\xff")
+)
+FORMAT = MONO[12:36]
+TWO_DATA = b"data\2\0\0\0\1\0data\4\0\0\0\1\0\2\0"
+EIGHT_BITS = struct.pack("<4sIHHIIHH", b"fmt ", 16, 1, 1, 48000, 48000, 1, 8)
+CHANGED_WAVS = [  # a file, a place, the byte that stands there then, and the fault's number
+    (MONO, 3, b"X", 1),
+    (MONO, 8, b"w", 1),
+    (MONO, 12, b"F", 2),
+    (MONO, 16, b"\x0f", 3),
+    (MONO, 20, b"\3", 4),
+    (MONO, 22, b"\0", 3),
+    (MONO, 22, b"\3", 4),
+    (MONO, 26, b"\x0c", 4),
+    (MONO, 32, b"\4", 3),
+    (MONO, 34, b"\x08", 4),
+    (MONO, 36, b"D", 5),
+    (MONO, 40, b"\7", 6),
+    (STEREO, 16, b"\x27", 3),
+    (STEREO, 44, b"\3", 4),
+    (STEREO, 59, b"\0", 4),
+    (STEREO, 64, b"\xff", 6),
+    (STEREO, 0, b"R", 7),
+]
+CHUNKS = [  # the chunks of a file, and the fault's number where it has one
+    ([TWO_DATA, FORMAT], 2),
+    ([EIGHT_BITS, FORMAT, TWO_DATA], 4),
+    ([struct.pack("<4sIHHIIHH", b"fmt ", 16, 1, 1, 0, 48000, 2, 16), TWO_DATA], 3),
+    ([struct.pack("<4sIHHIIHH", b"fmt ", 16, 1, 1, 768001, 48000, 2, 16), TWO_DATA], 4),
+    ([FORMAT, b"LIST\5\0\0\0abcde"], 5),
+    ([FORMAT, b"LIST\xff\xff\xff\xffab", TWO_DATA], 6),
+    ([FORMAT, b"data\xff\xff\xff\xff\1\0"], 6),
+    ([FORMAT, EIGHT_BITS, TWO_DATA], None),
+    ([FORMAT, b"LIST\5\0\0\0abcde\0", b"data\3\0\0\0\1\0\2"], None),
+]
+
+
+def check_wavs():
+    """The faults of inputs, and what stands where a file has none: its one frame, and silence behind it."""
+    rows = [(f"byte {at}", data[:at] + byte + data[at + 1 :], number) for data, at, byte, number in CHANGED_WAVS]
+    ends = [(12, 1), (20, 2), (36, 6), (44, 5), (50, 6)]
+    rows += [(f"{size} bytes", MONO[:size], next(number for end, number in ends if size < end)) for size in range(50)]
+    rows += [(f"chunks {i}", b"RIFF\0\0\0\0WAVE" + b"".join(chunks), number) for i, (chunks, number) in enumerate(CHUNKS)]
+    for name, data, number in rows:
+        folder = folder_with({"s": session(), "in.wav": data})
+        if number is None:
+            expect_16_bits(name, folder, [1, 0, 0])
+        else:
+            expect(name, run(folder, RENDER), (3, f"refused wav {number}\n"))
 
 
 def check_faults():
@@ -206,5 +282,6 @@ with tempfile.TemporaryDirectory() as WORK:
     check_sessions()
     check_examples()
     check_refusals()
+    check_wavs()
     check_faults()
 sys.exit(TALLY.close("checks"))

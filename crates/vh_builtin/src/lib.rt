@@ -19,9 +19,8 @@ mod sound;
 mod tables;
 mod tap;
 
-pub use component::Component;
+pub use component::{Component, defaults};
 pub use editor::Editor;
+pub use kind::Kind;
 pub use set::BuiltIn;
-
-#[cfg(test)]
-mod tests;
+pub use sound::Sound;

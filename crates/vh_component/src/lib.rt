@@ -12,6 +12,3 @@ pub use layout::{BusInfo, Layout, NoBus, Unsupported};
 pub use life::Life;
 pub use setup::{Phase, Setup};
 pub use states::{Active, Created, Initialized, Processing, Ready};
-
-#[cfg(test)]
-mod tests;

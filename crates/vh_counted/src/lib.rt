@@ -10,6 +10,3 @@ mod numbers;
 mod object;
 
 pub use object::{Counted, Ended, Holder, Opened, Released, Shell, TooMany};
-
-#[cfg(test)]
-mod tests;

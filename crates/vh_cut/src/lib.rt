@@ -7,6 +7,3 @@ mod piece;
 
 pub use cut::pieces;
 pub use piece::{Piece, Pieces};
-
-#[cfg(test)]
-mod tests;

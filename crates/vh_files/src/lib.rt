@@ -17,6 +17,3 @@ pub use mem::{MemFiles, MemSay};
 pub use outside::{Failed, Files, Gate, Say};
 pub use sure::{SureFiles, SureSay};
 pub use whole::{append_all, fill, say_all};
-
-#[cfg(test)]
-mod tests;

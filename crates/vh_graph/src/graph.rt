@@ -60,18 +60,12 @@ impl Graph {
         ensures free { OnOk result ((node : ℕ) → ¬ IsOnCycle wires.now node) }
         ensures cycle { IfErr result (NamesLeast wires.now) }
     {
-        let Ok(sources) = sources_by_node(alloc, n, wires) else {
-            return Err(Refusal::Memory);
-        };
-        let Ok(found) = order_of(alloc, &sources) else {
-            return Err(Refusal::Memory);
-        };
+        let sources = sources_by_node(alloc, n, wires)?;
+        let found = order_of(alloc, &sources)?;
         let Some(order) = found else {
             return Err(refused(alloc, &sources));
         };
-        let Ok(layers) = layers_of(alloc, &sources, &order) else {
-            return Err(Refusal::Memory);
-        };
+        let layers = layers_of(alloc, &sources, &order)?;
         Ok(Graph {
             order,
             layers,

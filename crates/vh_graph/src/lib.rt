@@ -9,6 +9,3 @@ mod search;
 mod wires;
 
 pub use graph::{Cycle, Graph};
-
-#[cfg(test)]
-mod tests;

@@ -9,7 +9,8 @@ use Rattle.vh_session.specs.declared.fault.SessionFault.{SessionFault}
 use Rattle.vh_session.specs.Content.{Content, node_wires}
 use Rattle.vh_session.specs.Entry.{Draft}
 use Rattle.vh_session.specs.Ended.{SaysSession, IsFault}
-use Rattle.vh_session.specs.Reading.{draft_of, fault, session_limit}
+use Rattle.vh_session.specs.Reading.{draft_of, fault}
+use Rattle.vh_session.specs.Limits.{session_limit}
 use Rattle.vh_session.specs.declared.fault.SessionKind.TheVariants.{TooLong}
 use Rattle.vh_host.specs.declared.status.Place.{Place}
 use Rattle.vh_host.specs.declared.status.Place.TheVariants.{Session, Input, Output, Report}

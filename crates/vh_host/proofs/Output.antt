@@ -10,7 +10,8 @@ use Rattle.vh_num.specs.Frames.{frames_of}
 use Rattle.vh_wav.specs.Text.{frame_text, frames_text, head_text, wav_text, data_size}
 use Rattle.vh_host.specs.SessionForm.{session_in}
 use Rattle.vh_session.specs.declared.fault.SessionKind.TheVariants.{TooLong}
-use Rattle.vh_session.specs.Reading.{fault, session_limit}
+use Rattle.vh_session.specs.Reading.{fault}
+use Rattle.vh_session.specs.Limits.{session_limit}
 use Rattle.vh_host.specs.Rendering.{gain_of, unity}
 use Rattle.vh_host.specs.Outside.{ReadAs}
 use Rattle.vh_host.specs.Stops.{samples_in}

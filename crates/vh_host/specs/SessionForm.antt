@@ -5,7 +5,8 @@ use Rattle.std.specs.Option.{option_map_or}
 use Rattle.std.specs.Str.{bytes_eq}
 use Rattle.vh_session.specs.declared.fault.SessionFault.{SessionFault}
 use Rattle.vh_session.specs.declared.fault.SessionKind.TheVariants.{BadHeader, TooLong, NotYet}
-use Rattle.vh_session.specs.Reading.{fault, session_limit}
+use Rattle.vh_session.specs.Reading.{fault}
+use Rattle.vh_session.specs.Limits.{session_limit}
 use Rattle.vh_params.specs.Names.{is_name}
 use Rattle.vh_host.specs.Lines.{line_at}
 use Rattle.vh_host.specs.Numbers.{plain_number, between}

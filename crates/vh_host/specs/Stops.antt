@@ -11,7 +11,8 @@ use Rattle.vh_host.specs.declared.status.Place.TheVariants.{Session, Input}
 use Rattle.vh_host.specs.declared.status.Status.{Status}
 use Rattle.vh_host.specs.declared.status.Status.TheVariants as status
 use Rattle.vh_session.specs.declared.fault.SessionKind.TheVariants.{TooLong}
-use Rattle.vh_session.specs.Reading.{fault, session_limit}
+use Rattle.vh_session.specs.Reading.{fault}
+use Rattle.vh_session.specs.Limits.{session_limit}
 use Rattle.vh_host.specs.declared.render.Samples.{Samples}
 use Rattle.vh_host.specs.SessionForm.{session_in}
 use Rattle.vh_host.specs.Rendering.{input_in, gain_of, unity}

@@ -10,7 +10,7 @@ ghost use Rattle.vh_files.specs.Store.{SaysMore};
 
 use crate::render::read_session;
 use crate::status::{Place, Status};
-use std::alloc::{AllocError, Global};
+use std::alloc::Global;
 use vh_files::{Files, Say, say_all};
 use vh_num::Refusal;
 use vh_params::Classes;
@@ -26,10 +26,7 @@ fn canonical(
     ensures refused { IfErr result (RefusesText (classes_of classes.now) bytes.now) }
 {
     let session = read(alloc, bytes, classes)?;
-    match session.print(alloc) {
-        Ok(text) => Ok(text),
-        Err(AllocError) => Err(Refusal::Memory),
-    }
+    Ok(session.print(alloc)?)
 }
 
 /// Says the canonical text of a session.

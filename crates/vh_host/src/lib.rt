@@ -12,6 +12,3 @@ mod top;
 
 pub use status::{Place, Status};
 pub use top::run;
-
-#[cfg(test)]
-mod tests;

@@ -6,7 +6,7 @@ ghost use Rattle.vh_files.specs.Store.{told, Lacks, HasNow, SameElsewhere};
 ghost use Rattle.vh_wav.specs.Heads.{IsHead, frames_end};
 ghost use Rattle.vh_wav.specs.Samples.{sample_in};
 ghost use Rattle.vh_wav.specs.Text.{wav_text, frames_text};
-ghost use Rattle.vh_session.specs.Reading.{session_limit};
+ghost use Rattle.vh_session.specs.Limits.{session_limit};
 
 use crate::gain::{UNITY, apply_gain};
 use crate::status::{Place, Status};

@@ -2,7 +2,8 @@
 
 ghost use Rattle.std.specs.Prelude.{◌≡◌, ◌≤◌, Option, Some, None, Result, Ok, Err, option_copied, length, IfSome, IfOk, ◌^◌};
 ghost use Rattle.vh_host.specs.SessionForm.{length_in, size_in, name_in, names, lines_in, session_in};
-ghost use Rattle.vh_session.specs.Reading.{fault, session_limit};
+ghost use Rattle.vh_session.specs.Reading.{fault};
+ghost use Rattle.vh_session.specs.Limits.{session_limit};
 ghost use Rattle.vh_host.specs.Parsed.{parsed};
 
 use crate::lines::{between, number, split_line};

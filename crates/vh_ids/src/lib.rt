@@ -7,6 +7,3 @@ mod tuid;
 
 pub use interface::{Interface, iid};
 pub use tuid::Tuid;
-
-#[cfg(test)]
-mod tests;

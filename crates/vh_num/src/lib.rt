@@ -9,6 +9,3 @@ mod values;
 pub use refusal::Refusal;
 pub use samples::{clamp, mix_into, settle};
 pub use values::{ONE, index, norm, quant};
-
-#[cfg(test)]
-mod tests;

@@ -1,3 +1,7 @@
+ghost use Rattle.std.specs.Prelude.{◌≡◌};
+ghost use Rattle.vh_num.specs.declared.refusal.Refusal.TheVariants.{Memory as OfMemory};
+
+use std::alloc::AllocError;
 use std::fmt::Display;
 use thiserror::Error;
 
@@ -11,4 +15,12 @@ pub enum Refusal<E> {
     /// There was no memory for the answer.
     #[error("out of memory")]
     Memory,
+}
+
+impl<E> From<AllocError> for Refusal<E> {
+    ghost from_gives = { λ _ refusal. refusal ≡ OfMemory };
+
+    fn from(_: AllocError) -> Refusal<E> {
+        Refusal::Memory
+    }
 }

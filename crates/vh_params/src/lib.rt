@@ -20,6 +20,3 @@ pub use param::{
     ParamInfo, UnitInfo,
 };
 pub use table::{ParamTable, TableFault};
-
-#[cfg(test)]
-mod tests;

@@ -109,12 +109,8 @@ impl ParamTable {
             Some(fault) => return Err(Refusal::Fault(fault)),
             None => {}
         }
-        let Ok(params) = sorted(alloc, params) else {
-            return Err(Refusal::Memory);
-        };
-        let Ok(units) = Vec::from_slice(alloc, units) else {
-            return Err(Refusal::Memory);
-        };
+        let params = sorted(alloc, params)?;
+        let units = Vec::from_slice(alloc, units)?;
         Ok(ParamTable { params, units })
     }
 

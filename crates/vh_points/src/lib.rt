@@ -6,6 +6,3 @@ pub mod laws;
 mod points;
 
 pub use points::Points;
-
-#[cfg(test)]
-mod tests;

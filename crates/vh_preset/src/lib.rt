@@ -13,6 +13,3 @@ pub use fault::{PresetFault, PresetRefusal};
 pub use preset::{Preset, PresetEntry};
 pub use reader::{PRESET_LIMIT, read};
 pub use writer::write;
-
-#[cfg(test)]
-mod tests;

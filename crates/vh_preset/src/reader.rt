@@ -121,9 +121,7 @@ fn read_entries(alloc: Global, bytes: &[u8]) -> Result<Vec<PresetEntry>, Refusal
     let list = field64(bytes, 40) as usize;
     let count = field32(bytes, list + 4);
     let size = bytes.len() as u64;
-    let Ok(mut entries) = Vec::with_capacity(alloc, count as usize) else {
-        return Err(Refusal::Memory);
-    };
+    let mut entries = Vec::with_capacity(alloc, count as usize)?;
     for i in 0..count {
         let entry = read_entry(&bytes[list + 8 + 20 * i as usize..]);
         if is_out(&entry, size) {

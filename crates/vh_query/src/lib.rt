@@ -5,6 +5,3 @@ mod interfaces;
 pub mod laws;
 
 pub use interfaces::{Interfaces, QueryRefused};
-
-#[cfg(test)]
-mod tests;

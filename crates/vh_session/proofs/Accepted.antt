@@ -13,11 +13,12 @@ use Rattle.vh_params.specs.Nodes.{Node, info_in}
 use Rattle.vh_params.specs.Short.{label_text}
 use Rattle.vh_session.specs.declared.fault.SessionKind.TheVariants.{BadNumber, Missing, Extra, UnknownNode, UnknownClass, UnknownParam, ReadOnlyParam}
 use Rattle.vh_session.specs.declared.wire.End.TheVariants.{In, Out, Node as AtNode}
-use Rattle.vh_session.specs.Rules.{given, unless, arity, any_number, number_that, numbers_that, node_from, the_node, class_named, the_class, the_param, settable_param, is_read_only, first_end, last_end}
+use Rattle.vh_session.specs.Rules.{arity, any_number, number_that, numbers_that, node_from, the_node, class_named, the_class, the_param, settable_param, is_read_only, first_end, last_end}
+use Rattle.vh_text.specs.Chains.{given, fault_if}
 use Rattle.vh_session.specs.Lines.{is_any}
 use Rattle.vh_session.specs.Keeps.{Begins, Ends}
 use Rattle.vh_session.proofs.Params.{found_again, found_id}
-use Rattle.vh_session.proofs.Gives.{Gives, gives_ok, gives_err, gives_given, gives_unless, gives_if}
+use Rattle.vh_text.proofs.Gives.{Gives, gives_ok, gives_err, gives_given, gives_fault_if, gives_if}
 
 -- the value that an option has
 some_value : {A : Type 0} (a b : A) → Some a ≡ Some b → a ≡ b
@@ -43,7 +44,7 @@ any_given text = gives_some (λ n. is_any n ≡ true) (number_of text) BadNumber
 pub that_given : (passes : ℕ → Bool) (text : List ℕ) → Gives (λ n. passes n ≡ true) (number_that passes text)
 that_given passes text =
     let P : ℕ → Type 0 = λ n. passes n ≡ true in
-    gives_given P (any_number text) (λ n. unless (not (passes n)) BadNumber (Ok n)) (λ n is. gives_unless P (not (passes n)) BadNumber (Ok n) (λ test. gives_ok P n (not-false (passes n) test)))
+    gives_given P (any_number text) (λ n. fault_if (not (passes n)) BadNumber (Ok n)) (λ n is. gives_fault_if P (not (passes n)) BadNumber (Ok n) (λ test. gives_ok P n (not-false (passes n) test)))
 
 pub numbers_given : (passes : ℕ → Bool) (texts : List (List ℕ)) → Gives (λ ns. (length ns ≡ length texts) × All (λ n. passes n ≡ true) ns) (numbers_that passes texts)
 numbers_given passes [] = gives_ok (λ ns. (length ns ≡ 0) × All (λ n. passes n ≡ true) ns) [] (refl, λ k d lt. absurd (omega (arith, lt)))
@@ -69,7 +70,7 @@ param_given nodes node text =
     let P : ParamInfo → Type 0 = λ param. (info_in nodes node param.id ≡ Some param) × (is_any param.id ≡ true) in
     let Q : ParamInfo → Type 0 = λ param. (info_in nodes node param.id ≡ Some param) × (is_read_only param ≡ false) × (is_any param.id ≡ true) in
     let there : Gives P (the_param nodes node text) = gives_given P (any_number text) (λ id. ok_or (info_in nodes node id) UnknownParam) (λ id is. gives_some P (info_in nodes node id) UnknownParam (λ param found. (found_again nodes node id param found, subst (λ i. is_any i ≡ true) (sym (found_id nodes node id param found)) (any_given text id is)))) in
-    gives_given Q (the_param nodes node text) (λ param. unless (is_read_only param) ReadOnlyParam (Ok param)) (λ param is. gives_unless Q (is_read_only param) ReadOnlyParam (Ok param) (λ test. gives_ok Q param ((there param is).0, test, (there param is).1)))
+    gives_given Q (the_param nodes node text) (λ param. fault_if (is_read_only param) ReadOnlyParam (Ok param)) (λ param is. gives_fault_if Q (is_read_only param) ReadOnlyParam (Ok param) (λ test. gives_ok Q param ((there param is).0, test, (there param is).1)))
 
 pub found_holds : {A : Type 0} (p : A → Bool) (xs : List A) (x : A) → find p xs ≡ Some x → p x ≡ true
 found_holds p [] x is = absurd (subst (λ o. elim o as (λ _. Type 0) [ None ↦ Unit {0} | Some m ↦ ⊥ ]) is tt)
@@ -86,7 +87,7 @@ class_given known name = gives_some (λ class. (class_named known (label_text cl
 pub count_given : (least most count : ℕ) → Gives (λ fits. (least ≤ count) × (count ≤ most)) (arity least most count)
 count_given least most count =
     let P : Unit {0} → Type 0 = λ fits. (least ≤ count) × (count ≤ most) in
-    gives_unless P (nat_lt count least) Missing (unless (nat_lt most count) Extra (Ok tt)) (λ low. gives_unless P (nat_lt most count) Extra (Ok tt) (λ high. gives_ok P tt (ltb-false count least low, ltb-false most count high)))
+    gives_fault_if P (nat_lt count least) Missing (fault_if (nat_lt most count) Extra (Ok tt)) (λ low. gives_fault_if P (nat_lt most count) Extra (Ok tt) (λ high. gives_ok P tt (ltb-false count least low, ltb-false most count high)))
 
 pub first_given : (nodes : List Node) (text : List ℕ) → Gives (Begins (length nodes)) (first_end nodes text)
 first_given nodes text = let B = Begins (length nodes) in

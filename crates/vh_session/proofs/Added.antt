@@ -8,7 +8,7 @@ use Rattle.vh_params.specs.declared.class.ClassInfo.{ClassInfo}
 use Rattle.vh_params.specs.Nodes.{Node}
 use Rattle.vh_session.specs.declared.wire.Wire.{Wire}
 use Rattle.vh_session.specs.Entry.{Draft, LengthLine, ChannelsLine, BitsLine, PatternLine, PresetLine, ParamLine, WireLine, LaneLine, PointLine, EditorLine, ScriptLine, ScriptWord, LaneText, with_entry, with_last, with_break, no_lane, last_lane, last_sample, break_count}
-use Rattle.vh_session.specs.Rules.{is_within}
+use Rattle.vh_text.specs.Numbers.{is_within}
 use Rattle.vh_session.specs.Lines.{one, is_any, is_bits, has_aux}
 use Rattle.vh_session.specs.Keeps.{EachBehind, AreSizes, IsFile, can_set, IsWireBehind, IsLaneBehind, IsScriptWord, word_count}
 use Rattle.vh_session.proofs.Breaks.{breaks_more}

@@ -15,21 +15,24 @@ use Rattle.vh_text.specs.Lines.{lines_of}
 use Rattle.vh_text.specs.Tokens.{bad_byte, words_of}
 use Rattle.vh_session.specs.declared.fault.SessionKind.TheVariants.{BadHeader, BadByte, NoLine, TooLong}
 use Rattle.vh_session.specs.Entry.{Draft, Entry, no_draft, with_entry}
-use Rattle.vh_session.specs.Rules.{Checked, given, unless, is_within}
+use Rattle.vh_session.specs.Rules.{Checked}
+use Rattle.vh_text.specs.Numbers.{is_within}
+use Rattle.vh_text.specs.Chains.{given, fault_if}
 use Rattle.vh_session.specs.Lines.{one, is_any, is_bits, line_of, line_of_words}
-use Rattle.vh_session.specs.Reading.{fault, is_skipped, with_line, after_line, lines_from, is_header, text_from, is_complete, session_limit, draft_of}
+use Rattle.vh_session.specs.Reading.{fault, is_skipped, with_line, after_line, lines_from, is_header, text_from, is_complete, draft_of}
+use Rattle.vh_session.specs.Limits.{session_limit}
 use Rattle.vh_session.specs.Content.{presets_from, value_in, first_of, firsts_from, content_in, or_zero, node_wires}
 use Rattle.vh_session.specs.Keeps.{EachBehind, AreSizes, IsFile, ArePresets, can_set, is_earlier, IsFirstBehind, IsNodeBehind, IsSession, StandsUnder}
 use Rattle.vh_session.specs.Lines.{has_aux}
 use Rattle.vh_session.proofs.Behind.{behind_all}
-use Rattle.vh_session.proofs.Gives.{Gives, gives_ok, gives_err, gives_given, gives_unless, gives_if}
+use Rattle.vh_text.proofs.Gives.{Gives, gives_ok, gives_err, gives_given, gives_fault_if, gives_if}
 use Rattle.vh_session.proofs.Legal.{IsLegal, NodeFirsts, none_legal}
 use Rattle.vh_session.proofs.LinesKeep.{Keeps, words_keep}
-use Rattle.vh_session.proofs.Split.{all_words}
+use Rattle.vh_text.proofs.Split.{all_words}
 
 line_keeps : (known : List ClassInfo) (draft : Draft) (line : ℕ) (text : List ℕ) → IsLegal known draft → Gives (Keeps known draft line) (line_of known draft text)
 line_keeps known draft line text legal =
-    gives_unless (Keeps known draft line) (is_some (bad_byte text)) BadByte (line_of_words known draft (words_of text)) (λ printable. words_keep known draft line (words_of text) (all_words text printable) legal)
+    gives_fault_if (Keeps known draft line) (is_some (bad_byte text)) BadByte (line_of_words known draft (words_of text)) (λ printable. words_keep known draft line (words_of text) (all_words text printable) legal)
 
 with_keeps : (known : List ClassInfo) (draft : Draft) (line : ℕ) (said : Checked Entry) → Gives (Keeps known draft line) said → Gives (IsLegal known) (with_line line draft said)
 with_keeps known draft line (Ok entry) gives = gives_ok (IsLegal known) (with_entry line entry draft) (gives entry refl)
@@ -43,16 +46,16 @@ lines_keep known line draft (text ∷ texts) legal =
 
 text_keeps : (known : List ClassInfo) (texts : List (List ℕ)) → Gives (IsLegal known) (text_from known texts)
 text_keeps known [] = gives_err (IsLegal known) (fault 1 BadHeader)
-text_keeps known (text ∷ texts) = gives_unless (IsLegal known) (not (is_header text)) (fault 1 BadHeader) (lines_from known 2 no_draft texts) (λ header. lines_keep known 2 no_draft texts (none_legal known))
+text_keeps known (text ∷ texts) = gives_fault_if (IsLegal known) (not (is_header text)) (fault 1 BadHeader) (lines_from known 2 no_draft texts) (λ header. lines_keep known 2 no_draft texts (none_legal known))
 
 -- lines that were read are legal and complete
 pub draft_keeps : (known : List ClassInfo) (bytes : List ℕ) → Gives (λ draft. IsLegal known draft × (is_complete draft ≡ true)) (draft_of known bytes)
 draft_keeps known bytes =
     let D : Draft → Type 0 = λ draft. IsLegal known draft × (is_complete draft ≡ true) in
     let end = fault (length (lines_of bytes) + 1) NoLine in
-    gives_unless D (nat_lt session_limit (length bytes)) (fault 0 TooLong) (given (text_from known (lines_of bytes)) (λ draft. unless (not (is_complete draft)) end (Ok draft))) (λ short.
-    gives_given D (text_from known (lines_of bytes)) (λ draft. unless (not (is_complete draft)) end (Ok draft)) (λ draft is.
-    gives_unless D (not (is_complete draft)) end (Ok draft) (λ complete.
+    gives_fault_if D (nat_lt session_limit (length bytes)) (fault 0 TooLong) (given (text_from known (lines_of bytes)) (λ draft. fault_if (not (is_complete draft)) end (Ok draft))) (λ short.
+    gives_given D (text_from known (lines_of bytes)) (λ draft. fault_if (not (is_complete draft)) end (Ok draft)) (λ draft is.
+    gives_fault_if D (not (is_complete draft)) end (Ok draft) (λ complete.
     gives_ok D draft (text_keeps known (lines_of bytes) draft is, not-false (is_complete draft) complete))))
 
 presets_rise : (count least node : ℕ) (presets : List (Option (List ℕ))) → least ≤ node → node + length presets ≤ count → All (λ preset. IfSome preset IsFile) presets → ArePresets count least (presets_from node presets)

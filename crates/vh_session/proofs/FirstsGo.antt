@@ -20,11 +20,11 @@ use Rattle.vh_session.proofs.FirstsBack.{Lower, Told, first_last, told_more, low
 use Rattle.vh_session.proofs.Found.{node_found, settable_found, is_small}
 use Rattle.vh_session.proofs.Goes.{Goes, with_lines, goes_none, goes_on_to, goes_line}
 use Rattle.vh_session.proofs.NodesBack.{state}
-use Rattle.vh_session.proofs.Numerals.{number_word}
+use Rattle.vh_text.proofs.Numerals.{number_word}
 use Rattle.vh_session.proofs.PartsNamed.{node_there}
 use Rattle.vh_session.proofs.PresetsBack.{named_word}
-use Rattle.vh_session.proofs.Says.{kind_says, param_says, within_small}
-use Rattle.vh_session.proofs.WordsOf.{code_word, no_words, one_more}
+use Rattle.vh_session.proofs.Says.{param_says, within_small}
+use Rattle.vh_text.proofs.WordsOf.{code_word, no_words, one_more}
 
 param_there : (nodes : List Node) (node id : ℕ) → can_set nodes node id ≡ true → (param : ParamInfo) × (param_in (node_at nodes node).params id ≡ Some param)
 param_there nodes node id can = elim (nat_lt node (length nodes)) as (λ t. is_settable (cond t (param_in (node_at nodes node).params id) None) ≡ true → (param : ParamInfo) × (param_in (node_at nodes node).params id ≡ Some param)) [
@@ -65,7 +65,7 @@ firsts_go known content presets before done (first ∷ firsts) named many told e
     let there = param_there nodes node id stands.settable in
     let words = one_more (codes "param") (name_of nodes node ∷ decimal id ∷ decimal value ∷ []) (code_word (codes "param") refl) (one_more (name_of nodes node) (decimal id ∷ decimal value ∷ []) (named_word nodes node named lt) (one_more (decimal id) (decimal value ∷ []) (number_word id small) (one_more (decimal value) [] (number_word value (within_small 0 one value (omega arith) stands.value)) no_words))) in
     let says : (stand : List ℕ) → line_of_words known (with_lines stand (firsts_state known content presets before)) (param_words nodes first) ≡ Ok (ParamLine node id value) = λ stand.
-    kind_says (param_line (with_lines stand (firsts_state known content presets before)) (name_of nodes node) (decimal id) (decimal value)) _ (ParamLine node id value) (param_says (with_lines stand (firsts_state known content presets before)) (name_of nodes node) node id value param.0 (node_found nodes node named lt) param.1 param.2 stands.value (none_any (get_or before node []) id bounds.0)) in
+    (param_says (with_lines stand (firsts_state known content presets before)) (name_of nodes node) node id value param.0 (node_found nodes node named lt) param.1 param.2 stands.value (none_any (get_or before node []) id bounds.0)) in
     let line = goes_line known (param_words nodes first) (firsts_state known content presets before) (ParamLine node id value) words refl says in
     let rest = firsts_go known content presets after (done ++ first ∷ []) firsts named (length-set before node (get_or before node [] ++ (id, value) ∷ []) ∙ many) (told_more before done node id value told) each.1 in
     let rising = behind_all IsNodeBehind (λ n. AreRising n.params) [] nodes (λ bs n s. s.rising) named in

@@ -9,7 +9,8 @@ use Rattle.vh_params.specs.declared.param.ParamInfo.{ParamInfo}
 use Rattle.vh_params.specs.Nodes.{Node, node_at, info_in}
 use Rattle.vh_session.specs.declared.fault.SessionKind.TheVariants.{UnknownNode, UnknownParam, ReadOnlyParam}
 use Rattle.vh_session.specs.Lines.{is_any}
-use Rattle.vh_session.specs.Rules.{node_from, node_named, the_node, the_param, settable_param, given, unless, is_read_only, can_automate}
+use Rattle.vh_session.specs.Rules.{node_from, node_named, the_node, the_param, settable_param, is_read_only, can_automate}
+use Rattle.vh_text.specs.Chains.{given, fault_if}
 use Rattle.vh_session.specs.Text.{name_of}
 use Rattle.vh_session.specs.Keeps.{EachBehind, IsNodeBehind, is_settable, can_set, is_automated, has_automation}
 use Rattle.vh_session.proofs.Named.{same_text}
@@ -55,10 +56,10 @@ param_found P nodes node id none is any =
 pub settable_found : (nodes : List Node) (node id : ℕ) → can_set nodes node id ≡ true → is_any id ≡ true → (param : ParamInfo) × (settable_param nodes node (decimal id) ≡ Ok param) × (param.id ≡ id)
 settable_found nodes node id can any =
     let found = param_found is_settable nodes node id refl can any in
-    (found.0, ap (λ r. given r (λ param. unless (is_read_only param) ReadOnlyParam (Ok param))) found.1 ∙ ap (λ t. unless t ReadOnlyParam (Ok found.0)) (not-true (is_read_only found.0) found.3), found.2)
+    (found.0, ap (λ r. given r (λ param. fault_if (is_read_only param) ReadOnlyParam (Ok param))) found.1 ∙ ap (λ t. fault_if t ReadOnlyParam (Ok found.0)) (not-true (is_read_only found.0) found.3), found.2)
 
 pub automated_found : (nodes : List Node) (node id : ℕ) → has_automation nodes node id ≡ true → is_any id ≡ true → (param : ParamInfo) × (settable_param nodes node (decimal id) ≡ Ok param) × (param.id ≡ id) × (can_automate param ≡ true)
 automated_found nodes node id can any =
     let found = param_found is_automated nodes node id refl can any in
     let both = and_parts (not (is_read_only found.0)) (can_automate found.0) found.3 in
-    (found.0, ap (λ r. given r (λ param. unless (is_read_only param) ReadOnlyParam (Ok param))) found.1 ∙ ap (λ t. unless t ReadOnlyParam (Ok found.0)) (not-true (is_read_only found.0) both.0), found.2, both.1)
+    (found.0, ap (λ r. given r (λ param. fault_if (is_read_only param) ReadOnlyParam (Ok param))) found.1 ∙ ap (λ t. fault_if t ReadOnlyParam (Ok found.0)) (not-true (is_read_only found.0) both.0), found.2, both.1)

@@ -7,9 +7,10 @@ use Rattle.vh_params.specs.declared.class.ClassInfo.{ClassInfo}
 use Rattle.vh_session.specs.Entry.{Entry, Draft, with_entry, lines_with}
 use Rattle.vh_session.specs.Lines.{line_of_words}
 use Rattle.vh_session.specs.Reading.{is_skipped, lines_from, after_line, with_line}
-use Rattle.vh_session.specs.Rules.{given}
-use Rattle.vh_session.specs.Keeps.{IsWord}
-use Rattle.vh_session.proofs.Joined.{joined, line_says}
+use Rattle.vh_text.specs.Chains.{given}
+use Rattle.vh_text.specs.Tokens.{IsWord}
+use Rattle.vh_text.proofs.Joined.{joined}
+use Rattle.vh_session.proofs.LineSays.{line_says}
 
 -- a draft whose nodes stand in these lines
 abbrev pub with_lines : List ℕ → Draft → Draft

@@ -10,17 +10,18 @@ use Rattle.vh_params.specs.declared.class.ClassInfo.{ClassInfo}
 use Rattle.vh_session.specs.Content.{Content}
 use Rattle.vh_session.specs.Entry.{Draft, LaneText, LaneLine, PointLine, with_entry, with_last, with_break, no_lane, last_lane}
 use Rattle.vh_session.specs.Lines.{one, line_of_words, lane_line, point_line}
-use Rattle.vh_session.specs.Rules.{is_within}
+use Rattle.vh_text.specs.Numbers.{is_within}
 use Rattle.vh_session.specs.Text.{lane_with, lane_words, lanes_words, point_words, name_of}
-use Rattle.vh_session.specs.Keeps.{EachBehind, IsNodeBehind, IsLaneBehind, is_automated, buses_of, IsWord}
+use Rattle.vh_session.specs.Keeps.{EachBehind, IsNodeBehind, IsLaneBehind, is_automated, buses_of}
+use Rattle.vh_text.specs.Tokens.{IsWord}
 use Rattle.vh_session.proofs.Found.{node_found, automated_found, is_small}
 use Rattle.vh_session.proofs.Goes.{Goes, with_lines, goes_none, goes_on_to, goes_line, goes_same}
 use Rattle.vh_session.proofs.NodesBack.{state}
-use Rattle.vh_session.proofs.Numerals.{number_word}
+use Rattle.vh_text.proofs.Numerals.{number_word}
 use Rattle.vh_session.proofs.PartsNamed.{node_there}
 use Rattle.vh_session.proofs.PresetsBack.{named_word}
-use Rattle.vh_session.proofs.Says.{kind_says, lane_says, point_says, within_small}
-use Rattle.vh_session.proofs.WordsOf.{code_word, no_words, one_more}
+use Rattle.vh_session.proofs.Says.{lane_says, point_says, within_small}
+use Rattle.vh_text.proofs.WordsOf.{code_word, no_words, one_more}
 
 pub last_put : {A : Type 0} (f : A → A) (xs : List A) (x : A) → with_last f (xs ++ x ∷ []) ≡ xs ++ f x ∷ []
 last_put f [] x = refl
@@ -66,7 +67,7 @@ module _ (known : List ClassInfo) (content : Content) (presets : List (Option (L
       let same = last_is before (lane_of lane done) in
       let words = one_more (codes "point") (decimal point.0 ∷ decimal point.1 ∷ []) (code_word (codes "point") refl) (one_more (decimal point.0) (decimal point.1 ∷ []) (number_word point.0 (within_small 0 16777216 point.0 (omega arith) sample)) (one_more (decimal point.1) [] (number_word point.1 (omega (arith, value))) no_words)) in
       let says : (stand : List ℕ) → line_of_words known (with_lines stand (at lanes true)) (point_words point) ≡ Ok (PointLine point.0 point.1) = λ stand.
-      kind_says (point_line (with_lines stand (at lanes true)) (decimal point.0) (decimal point.1)) _ (PointLine point.0 point.1) (point_says (with_lines stand (at lanes true)) point.0 point.1 refl sample (one_within point.1 value) (subst (λ (l : LaneText). (get_or l.breaks (length l.breaks - 1) (0, 0)).0 < point.0) (sym same) rises) (subst (λ (l : LaneText). length l.breaks < 4096) (sym same) few)) in
+      (point_says (with_lines stand (at lanes true)) point.0 point.1 refl sample (one_within point.1 value) (subst (λ (l : LaneText). (get_or l.breaks (length l.breaks - 1) (0, 0)).0 < point.0) (sym same) rises) (subst (λ (l : LaneText). length l.breaks < 4096) (sym same) few)) in
       let first = goes_same known (point_words point ∷ []) (at lanes true) (with_entry 0 (PointLine point.0 point.1) (at lanes true)) (at (before ++ lane_of lane (done ++ point ∷ []) ∷ []) true) (ap (λ ls. at ls true) (last_put (with_break (point.0, point.1)) before (lane_of lane done))) (goes_line known (point_words point) (at lanes true) (PointLine point.0 point.1) words refl says) in
       let regroup = append_assoc done (point ∷ []) points in
       let more = length-append done (point ∷ []) in
@@ -88,7 +89,7 @@ module _ (known : List ClassInfo) (content : Content) (presets : List (Option (L
       let line = codes "lane" ∷ name ∷ decimal lane.id ∷ decimal lane.grain ∷ decimal break.0 ∷ decimal break.1 ∷ [] in
       let words : All IsWord line = one_more (codes "lane") (name ∷ decimal lane.id ∷ decimal lane.grain ∷ decimal break.0 ∷ decimal break.1 ∷ []) (code_word (codes "lane") refl) (one_more name (decimal lane.id ∷ decimal lane.grain ∷ decimal break.0 ∷ decimal break.1 ∷ []) (named_word nodes node named lt) (one_more (decimal lane.id) (decimal lane.grain ∷ decimal break.0 ∷ decimal break.1 ∷ []) (number_word lane.id (is_small lane.id stands.id)) (one_more (decimal lane.grain) (decimal break.0 ∷ decimal break.1 ∷ []) (number_word lane.grain (within_small 0 24 lane.grain (omega arith) stands.grain)) (one_more (decimal break.0) (decimal break.1 ∷ []) (number_word break.0 (within_small 0 16777216 break.0 (omega arith) sample)) (one_more (decimal break.1) [] (number_word break.1 (omega (arith, value))) no_words))))) in
       let says : (stand : List ℕ) → line_of_words known (with_lines stand (at before in_lane)) line ≡ Ok (LaneLine node lane.id lane.grain break.0 break.1) = λ stand.
-      kind_says (lane_line (with_lines stand (at before in_lane)) name (decimal lane.id) (decimal lane.grain) (decimal break.0) (decimal break.1)) _ (LaneLine node lane.id lane.grain break.0 break.1) (lane_says (with_lines stand (at before in_lane)) name node lane.id lane.grain break.0 break.1 param.0 (node_found nodes node named lt) param.1 param.2 param.3 stands.grain sample (one_within break.1 value) stands.new few) in
+      (lane_says (with_lines stand (at before in_lane)) name node lane.id lane.grain break.0 break.1 param.0 (node_found nodes node named lt) param.1 param.2 param.3 stands.grain sample (one_within break.1 value) stands.new few) in
       let first = goes_line known line (at before in_lane) (LaneLine node lane.id lane.grain break.0 break.1) words refl says in
       goes_on_to known (line ∷ []) (map point_words breaks) (at before in_lane) (at (before ++ lane_of lane (break ∷ []) ∷ []) true) (at (before ++ lane_of lane (break ∷ breaks) ∷ []) true) first (points_go before lane (break ∷ []) breaks (omega arith) stands.breaks (All-tail (λ break. is_within 0 16777216 break.0 ≡ true) break breaks stands.samples))
 

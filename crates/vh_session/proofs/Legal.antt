@@ -5,7 +5,7 @@ use Rattle.vh_params.specs.declared.class.ClassInfo.{ClassInfo}
 use Rattle.vh_params.specs.Nodes.{Node}
 use Rattle.vh_session.specs.declared.wire.Wire.{Wire}
 use Rattle.vh_session.specs.Entry.{Draft, LaneText, ScriptWord, no_draft}
-use Rattle.vh_session.specs.Rules.{is_within}
+use Rattle.vh_text.specs.Numbers.{is_within}
 use Rattle.vh_session.specs.Lines.{one, is_bits, is_any, has_aux}
 use Rattle.vh_session.specs.Keeps.{EachBehind, AreSizes, AreNodes, IsFile, can_set, IsWireBehind, IsLaneBehind, AreScripts, HasClass, buses_of, word_count}
 

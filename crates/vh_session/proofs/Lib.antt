@@ -1,7 +1,6 @@
 pub mod Named
 pub mod Lists
 pub mod Several
-pub mod Spans
 pub mod Stepped
 pub mod Lengths
 pub mod Params
@@ -11,8 +10,6 @@ pub mod Firsts
 pub mod Written
 pub mod Behind
 pub mod Legal
-pub mod Gives
-pub mod Split
 pub mod Added
 pub mod NodeAdded
 pub mod Accepted
@@ -20,7 +17,7 @@ pub mod LinesKeep
 pub mod DraftsKeep
 pub mod PartsNamed
 pub mod Numerals
-pub mod Joined
+pub mod LineSays
 pub mod Found
 pub mod Says
 pub mod Goes

@@ -9,7 +9,7 @@ use Rattle.vh_session.specs.Ended.{SaysSession, IsFault, IsCycleFault}
 use Rattle.vh_session.specs.Entry.{Draft}
 use Rattle.vh_session.specs.Laws.{TextsHaveOneMeaning, HasOneMeaning}
 use Rattle.vh_session.specs.Reading.{draft_of, fault}
-use Rattle.vh_session.proofs.Gives.{same_value, no_value}
+use Rattle.vh_text.proofs.Gives.{same_value, no_value}
 use Rattle.std.specs.Prelude.{slice_index_or}
 
 -- two answers of one reading

@@ -13,7 +13,8 @@ use Rattle.vh_session.specs.declared.wire.End.TheVariants.{In, Out, Node as AtNo
 use Rattle.vh_session.specs.Entry.{Draft, NodeLine, ScriptWord, BeginWord, PerformWord, EndWord, TellWord, HoldWord, DropWord, WaitWord, LaneText, with_entry, node_of_line}
 use Rattle.vh_session.specs.Rules.{class_named, node_named}
 use Rattle.vh_session.specs.Lines.{has_aux}
-use Rattle.vh_session.specs.Keeps.{IsNodeBehind, IsFile, IsWord, is_settable, can_set, is_automated, has_automation, Begins, Ends, IsWireBehind, IsLaneBehind, IsScriptWord, HasClass, buses_of, has_bus}
+use Rattle.vh_session.specs.Keeps.{IsNodeBehind, IsFile, is_settable, can_set, is_automated, has_automation, Begins, Ends, IsWireBehind, IsLaneBehind, IsScriptWord, HasClass, buses_of, has_bus}
+use Rattle.vh_text.specs.Tokens.{IsWord}
 use Rattle.vh_session.proofs.Behind.{behind_more, behind_weaker}
 use Rattle.vh_session.proofs.Legal.{IsLegal, NodeFirsts}
 use Rattle.vh_session.proofs.Params.{info_more}

@@ -17,8 +17,9 @@ use Rattle.vh_session.specs.Text.{node_words}
 use Rattle.vh_session.specs.Keeps.{EachBehind, IsNodeBehind, HasClass, buses_of, has_bus}
 use Rattle.vh_session.proofs.Accepted.{found_holds}
 use Rattle.vh_session.proofs.Goes.{Goes, with_lines, goes_none, goes_on_to, goes_line, goes_same}
-use Rattle.vh_session.proofs.Says.{kind_says, node_says}
-use Rattle.vh_session.proofs.WordsOf.{code_word, name_word, no_words, one_more}
+use Rattle.vh_session.proofs.Says.{node_says}
+use Rattle.vh_session.proofs.WordsOf.{name_word}
+use Rattle.vh_text.proofs.WordsOf.{code_word, no_words, one_more}
 
 -- what the lines up to some point come to
 abbrev pub state : Content → List Node → List Bool → List (Option (List ℕ)) → List (List (ℕ × ℕ)) → List Wire → List LaneText → Bool → List (List ScriptWord) → ℕ → Draft
@@ -75,7 +76,7 @@ nodes_go known content before (node ∷ nodes) each has few =
     let stands = each.0 in
     let words = one_more (codes "node") (node.name ∷ node.class_name ∷ []) (code_word (codes "node") refl) (one_more node.name (node.class_name ∷ []) (name_word node.name stands.named) (one_more node.class_name [] stands.class no_words)) in
     let says : (stand : List ℕ) → line_of_words known (with_lines stand (nodes_state known content before)) (node_words node) ≡ Ok (NodeLine node.name class) = λ stand.
-    kind_says (node_line known (with_lines stand (nodes_state known content before)) node.name node.class_name) _ (NodeLine node.name class) (node_says known (with_lines stand (nodes_state known content before)) node.name node.class_name class stands.named of.0 stands.new (omega (arith, few))) in
+    (node_says known (with_lines stand (nodes_state known content before)) node.name node.class_name class stands.named of.0 stands.new (omega (arith, few))) in
     let first = goes_line known (node_words node) (nodes_state known content before) (NodeLine node.name class) words refl says in
     let first_ = goes_same known (node_words node ∷ []) (nodes_state known content before) (with_entry 0 (NodeLine node.name class) (nodes_state known content before)) (with_lines (0 ∷ []) (nodes_state known content (before ++ node ∷ []))) (node_more known content before node class of) first in
     let long = length-append before (node ∷ []) in

@@ -9,13 +9,15 @@ use Rattle.vh_session.specs.Content.{Content, presets_from}
 use Rattle.vh_session.specs.Entry.{Draft, PresetLine}
 use Rattle.vh_session.specs.Lines.{line_of_words, preset_line}
 use Rattle.vh_session.specs.Text.{preset_words, name_of}
-use Rattle.vh_session.specs.Keeps.{EachBehind, IsNodeBehind, ArePresets, buses_of, IsWord}
+use Rattle.vh_session.specs.Keeps.{EachBehind, IsNodeBehind, ArePresets, buses_of}
+use Rattle.vh_text.specs.Tokens.{IsWord}
 use Rattle.vh_session.proofs.Found.{node_found}
 use Rattle.vh_session.proofs.Goes.{Goes, with_lines, goes_none, goes_on_to, goes_line}
 use Rattle.vh_session.proofs.NodesBack.{state}
-use Rattle.vh_session.proofs.Says.{kind_says, preset_says}
+use Rattle.vh_session.proofs.Says.{preset_says}
 use Rattle.vh_session.proofs.Behind.{behind_all}
-use Rattle.vh_session.proofs.WordsOf.{code_word, name_word, no_words, one_more}
+use Rattle.vh_session.proofs.WordsOf.{name_word}
+use Rattle.vh_text.proofs.WordsOf.{code_word, no_words, one_more}
 
 -- no preset from this node on
 abbrev pub FreeFrom : ℕ → List (Option (List ℕ)) → Type 0
@@ -68,7 +70,7 @@ presets_go known content before least (preset ∷ presets) named many free are =
     let free_here : FreeFrom node before = λ n le. free n (let low = are.0 in omega (arith, low, le)) in
     let words = one_more (codes "preset") (name_of content.nodes node ∷ file ∷ []) (code_word (codes "preset") refl) (one_more (name_of content.nodes node) (file ∷ []) (named_word content.nodes node named lt) (one_more file [] are.2.0 no_words)) in
     let says : (stand : List ℕ) → line_of_words known (with_lines stand (presets_state known content before)) (preset_words content.nodes preset) ≡ Ok (PresetLine node file) = λ stand.
-    kind_says (preset_line (with_lines stand (presets_state known content before)) (name_of content.nodes node) file) _ (PresetLine node file) (preset_says (with_lines stand (presets_state known content before)) (name_of content.nodes node) file node (node_found content.nodes node named lt) are.2.1 (ap (λ o. is_some o) (free_here node (omega arith)))) in
+    (preset_says (with_lines stand (presets_state known content before)) (name_of content.nodes node) file node (node_found content.nodes node named lt) are.2.1 (ap (λ o. is_some o) (free_here node (omega arith)))) in
     let first = goes_line known (preset_words content.nodes preset) (presets_state known content before) (PresetLine node file) words refl says in
     let rest = presets_go known content after (node + 1) presets named (length-set before node (Some file) ∙ many) (free_behind before node file free_here) are.3 in
     record {

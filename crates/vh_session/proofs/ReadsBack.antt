@@ -19,29 +19,35 @@ use Rattle.vh_session.specs.declared.fault.SessionKind.TheVariants.{NoLine, TooL
 use Rattle.vh_session.specs.Content.{Content, first_of, presets_from, firsts_from}
 use Rattle.vh_session.specs.Ended.{SaysSession}
 use Rattle.vh_session.specs.Entry.{Draft, no_draft, LengthLine, ChannelsLine, BitsLine, PatternLine, LaneText}
-use Rattle.vh_session.specs.Keeps.{EachBehind, ArePresets, IsFirstBehind, IsSession, StandsUnder, IsNodeBehind, IsLaneBehind, HasClass, IsWord, word_count}
+use Rattle.vh_session.specs.Keeps.{EachBehind, ArePresets, IsFirstBehind, IsSession, StandsUnder, IsNodeBehind, IsLaneBehind, HasClass, word_count}
+use Rattle.vh_text.specs.Tokens.{IsWord}
 use Rattle.vh_session.specs.Lines
 use Rattle.vh_session.specs.Lines.{one, line_of_words, is_any}
-use Rattle.vh_session.specs.Reading.{fault, text_from, lines_from, is_complete, session_limit, draft_of}
-use Rattle.vh_session.specs.Rules.{given, unless, is_within, arity}
-use Rattle.vh_session.specs.Text.{name_of, lane_words, lines_text, line_text, session_words, session_text, settings_words, node_words, preset_words, param_words, wire_words, lanes_words, scripts_words}
+use Rattle.vh_session.specs.Reading.{fault, text_from, lines_from, is_complete, draft_of}
+use Rattle.vh_session.specs.Limits.{session_limit}
+use Rattle.vh_session.specs.Rules.{arity}
+use Rattle.vh_text.specs.Numbers.{is_within}
+use Rattle.vh_text.specs.Chains.{given, fault_if}
+use Rattle.vh_session.specs.Text.{name_of, lane_words, session_words, session_text, settings_words, node_words, preset_words, param_words, wire_words, lanes_words, scripts_words}
+use Rattle.vh_text.specs.Written.{lines_text, line_text}
 use Rattle.vh_session.proofs.Accepted.{found_holds}
 use Rattle.vh_session.proofs.Behind.{behind_all}
 use Rattle.vh_session.proofs.FirstsGo.{AreSet, firsts_state, firsts_go}
 use Rattle.vh_session.proofs.Found.{is_small}
 use Rattle.vh_session.proofs.Goes.{Goes, with_lines, goes_line, goes_on_to}
-use Rattle.vh_session.proofs.Joined.{joined, lines_are}
+use Rattle.vh_text.proofs.Joined.{joined, lines_are}
 use Rattle.vh_session.proofs.LanesBack.{lanes_state, lanes_go}
 use Rattle.vh_session.proofs.NodesBack.{no_preset, no_firsts, nodes_state, nodes_go}
-use Rattle.vh_session.proofs.Numerals.{number_word}
+use Rattle.vh_text.proofs.Numerals.{number_word}
 use Rattle.vh_session.proofs.PresetsBack.{ArePut, presets_go}
-use Rattle.vh_session.proofs.Says.{kind_says, length_says, channels_says, bits_says, pattern_says, within_small, bits_small, then_, counts, passes_}
+use Rattle.vh_session.proofs.Says.{length_says, channels_says, bits_says, pattern_says, within_small, bits_small, counts}
+use Rattle.vh_text.proofs.Gives.{then_, passes_}
 use Rattle.vh_session.proofs.ScriptsBack.{scripts_state, scripts_go}
 use Rattle.vh_session.proofs.SectionSizes.{within_most, wire_size, lane_size, lanes_size, scripts_size, short_name}
 use Rattle.vh_session.proofs.Sizes.{line_size, mapped_size, name_size, number_size, value_size, numbers_size, few_presets, few_firsts}
 use Rattle.vh_session.proofs.WiresBack.{wires_state, wires_go}
-use Rattle.vh_session.proofs.WordsOf.{code_word, no_words, one_more}
-use Rattle.vh_session.proofs.Written.{lines_append}
+use Rattle.vh_text.proofs.WordsOf.{code_word, no_words, one_more}
+use Rattle.vh_text.proofs.Written.{lines_append}
 
 pub size_words : (sizes : List ℕ) → All (λ n. is_within 1 8192 n ≡ true) sizes → All IsWord (map decimal sizes)
 size_words [] all = no_words
@@ -87,11 +93,10 @@ module _ (known : List ClassInfo) (content : Content) (keeps : IsSession content
       let long = length-map content.pattern decimal in
       let least = sizes.0 in
       let most = sizes.1 in
-      let a = goes_line known (codes "length" ∷ decimal content.length ∷ []) no_draft (LengthLine content.length) (one (codes "length") content.length (code_word (codes "length") refl) (within_small 0 16777216 content.length (omega arith) keeps.frames)) refl (λ stand. kind_says (Lines.length_line (with_lines stand no_draft) (decimal content.length)) _ (LengthLine content.length) (length_says (with_lines stand no_draft) content.length refl keeps.frames)) in
-      let b = goes_line known (codes "channels" ∷ decimal content.channels ∷ []) with_length (ChannelsLine content.channels) (one (codes "channels") content.channels (code_word (codes "channels") refl) (within_small 1 2 content.channels (omega arith) keeps.channels)) refl (λ stand. kind_says (Lines.channels_line (with_lines stand with_length) (decimal content.channels)) _ (ChannelsLine content.channels) (channels_says (with_lines stand with_length) content.channels refl keeps.channels)) in
-      let c = goes_line known (codes "bits" ∷ decimal content.bits ∷ []) with_channels (BitsLine content.bits) (one (codes "bits") content.bits (code_word (codes "bits") refl) (bits_small content.bits keeps.bits)) refl (λ stand. kind_says (Lines.bits_line (with_lines stand with_channels) (decimal content.bits)) _ (BitsLine content.bits) (bits_says (with_lines stand with_channels) content.bits refl keeps.bits)) in
+      let a = goes_line known (codes "length" ∷ decimal content.length ∷ []) no_draft (LengthLine content.length) (one (codes "length") content.length (code_word (codes "length") refl) (within_small 0 16777216 content.length (omega arith) keeps.frames)) refl (λ stand. (length_says (with_lines stand no_draft) content.length refl keeps.frames)) in
+      let b = goes_line known (codes "channels" ∷ decimal content.channels ∷ []) with_length (ChannelsLine content.channels) (one (codes "channels") content.channels (code_word (codes "channels") refl) (within_small 1 2 content.channels (omega arith) keeps.channels)) refl (λ stand. (channels_says (with_lines stand with_length) content.channels refl keeps.channels)) in
+      let c = goes_line known (codes "bits" ∷ decimal content.bits ∷ []) with_channels (BitsLine content.bits) (one (codes "bits") content.bits (code_word (codes "bits") refl) (bits_small content.bits keeps.bits)) refl (λ stand. (bits_says (with_lines stand with_channels) content.bits refl keeps.bits)) in
       let d = goes_line known (codes "pattern" ∷ map decimal content.pattern) with_bits (PatternLine content.pattern) (one_more (codes "pattern") (map decimal content.pattern) (code_word (codes "pattern") refl) (size_words content.pattern sizes.2)) refl (λ stand.
-      kind_says (given (arity 1 16 (length (map decimal content.pattern))) (λ fits. Lines.pattern_line (with_lines stand with_bits) (map decimal content.pattern))) _ (PatternLine content.pattern)
       (then_ (λ fits. Lines.pattern_line (with_lines stand with_bits) (map decimal content.pattern)) tt (counts 1 16 (length (map decimal content.pattern)) (omega (arith, long, least)) (omega (arith, long, most))) ∙ pattern_says (with_lines stand with_bits) content.pattern refl sizes.2)) in
       goes_on_to known (length_ ∷ []) (channels_ ∷ bits_ ∷ pattern_ ∷ []) no_draft with_length (nodes_state known content []) a (goes_on_to known (channels_ ∷ []) (bits_ ∷ pattern_ ∷ []) with_length with_channels (nodes_state known content []) b (goes_on_to known (bits_ ∷ []) (pattern_ ∷ []) with_channels with_bits (nodes_state known content []) c d))
 
@@ -267,7 +272,7 @@ module _ (known : List ClassInfo) (content : Content) (keeps : IsSession content
       let text = lines_text (session_words content) in
       let gone = all_go.1 2 [] in
       let after = with_lines gone.0 end in
-      let next : Draft → Result Draft SessionFault = λ draft. unless (not (is_complete draft)) (fault (length (lines_of text) + 1) NoLine) (Ok draft) in
+      let next : Draft → Result Draft SessionFault = λ draft. fault_if (not (is_complete draft)) (fault (length (lines_of text) + 1) NoLine) (Ok draft) in
       let lines : lines_of text ≡ joined header ∷ map joined tail = lines_are (session_words content) (All-cons (All IsWord) header tail header_words all_go.0) in
       let read : text_from known (joined header ∷ map joined tail) ≡ Ok after = ap (λ ls. lines_from known 2 no_draft ls) (sym (append-nil (map joined tail))) ∙ gone.1 [] in
       let some = keeps.pattern.0 in

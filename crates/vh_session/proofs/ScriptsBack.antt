@@ -9,20 +9,24 @@ use Rattle.vh_params.specs.Nodes.{Node}
 use Rattle.vh_session.specs.Content.{Content}
 use Rattle.vh_session.specs.Entry.{Draft, EditorLine, ScriptLine, ScriptWord, BeginWord, PerformWord, EndWord, TellWord, HoldWord, DropWord, WaitWord, with_entry}
 use Rattle.vh_session.specs.Lines
-use Rattle.vh_session.specs.Lines.{is_any, line_of_words, this_line, or_line}
+use Rattle.vh_session.specs.Lines.{is_any, line_of_words}
 use Rattle.vh_session.specs.Reading.{is_skipped}
-use Rattle.vh_session.specs.Rules.{given, any_number, numbers_that, arity}
+use Rattle.vh_session.specs.Rules.{any_number, numbers_that, arity}
+use Rattle.vh_text.specs.Chains.{given}
 use Rattle.vh_session.specs.Text.{script_words, scripts_words, name_of}
-use Rattle.vh_session.specs.Keeps.{EachBehind, IsNodeBehind, IsScriptWord, buses_of, word_count, IsWord}
+use Rattle.vh_session.specs.Keeps.{EachBehind, IsNodeBehind, IsScriptWord, buses_of, word_count}
+use Rattle.vh_text.specs.Tokens.{IsWord}
 use Rattle.vh_session.proofs.Found.{node_found, is_small}
 use Rattle.vh_session.proofs.Goes.{Goes, with_lines, goes_none, goes_on_to, goes_line, goes_same}
-use Rattle.vh_session.proofs.Joined.{joined}
+use Rattle.vh_text.proofs.Joined.{joined}
 use Rattle.vh_session.proofs.LanesBack.{last_put}
 use Rattle.vh_session.proofs.NodesBack.{state}
-use Rattle.vh_session.proofs.Numerals.{number_word, any_reads}
+use Rattle.vh_session.proofs.Numerals.{any_reads}
+use Rattle.vh_text.proofs.Numerals.{number_word}
 use Rattle.vh_session.proofs.PresetsBack.{named_word}
-use Rattle.vh_session.proofs.Says.{kind_says, editor_says, script_says, then_, counts, numbers_read}
-use Rattle.vh_session.proofs.WordsOf.{code_word, no_words, one_more}
+use Rattle.vh_session.proofs.Says.{editor_says, script_says, counts, numbers_read}
+use Rattle.vh_text.proofs.Gives.{then_}
+use Rattle.vh_text.proofs.WordsOf.{code_word, no_words, one_more}
 
 number_words : (ns : List ℕ) → All (λ n. is_any n ≡ true) ns → All IsWord (map decimal ns)
 number_words [] all = no_words
@@ -51,16 +55,13 @@ word_goes nodes (WaitWord block) = refl
 
 word_said : (known : List ClassInfo) (draft : Draft) (word : ScriptWord) → EachBehind IsNodeBehind [] draft.nodes → IsScriptWord (length draft.nodes) word → 0 < length draft.scripts → draft.script_count < 4096 → line_of_words known draft (script_words draft.nodes word) ≡ Ok (ScriptLine word)
 word_said known draft (BeginWord node id) named fits some few =
-    kind_says (Lines.begin_line draft (name_of draft.nodes node) (decimal id)) _ (ScriptLine (BeginWord node id))
     (then_ (λ node. given (any_number (decimal id)) (λ id. Lines.script_line draft (BeginWord node id))) node (node_found draft.nodes node named fits.0)
     ∙ then_ (λ id. Lines.script_line draft (BeginWord node id)) id (any_reads id (is_small id fits.1)) ∙ script_says draft (BeginWord node id) some few)
 word_said known draft (PerformWord node id value) named fits some few =
-    kind_says (Lines.perform_line draft (name_of draft.nodes node) (decimal id) (decimal value)) _ (ScriptLine (PerformWord node id value))
     (then_ (λ node. given (any_number (decimal id)) (λ id. given (any_number (decimal value)) (λ value. Lines.script_line draft (PerformWord node id value)))) node (node_found draft.nodes node named fits.0)
     ∙ then_ (λ id. given (any_number (decimal value)) (λ value. Lines.script_line draft (PerformWord node id value))) id (any_reads id (is_small id fits.1))
     ∙ then_ (λ value. Lines.script_line draft (PerformWord node id value)) value (any_reads value (is_small value fits.2)) ∙ script_says draft (PerformWord node id value) some few)
 word_said known draft (EndWord node id) named fits some few =
-    kind_says (Lines.end_line draft (name_of draft.nodes node) (decimal id)) _ (ScriptLine (EndWord node id))
     (then_ (λ node. given (any_number (decimal id)) (λ id. Lines.script_line draft (EndWord node id))) node (node_found draft.nodes node named fits.0)
     ∙ then_ (λ id. Lines.script_line draft (EndWord node id)) id (any_reads id (is_small id fits.1)) ∙ script_says draft (EndWord node id) some few)
 word_said known draft (TellWord node numbers) named fits some few =
@@ -71,16 +72,12 @@ word_said known draft (TellWord node numbers) named fits some few =
     let tells : Lines.tell_line draft name texts ≡ Ok (ScriptLine (TellWord node numbers)) =
     then_ (λ node. given (numbers_that is_any texts) (λ numbers. Lines.script_line draft (TellWord node numbers))) node (node_found draft.nodes node named fits.0)
     ∙ then_ (λ numbers. Lines.script_line draft (TellWord node numbers)) numbers (numbers_read 0 4294967295 numbers (omega arith) fits.1.1) ∙ script_says draft (TellWord node numbers) some few in
-    kind_says (given (arity 1 5 (suc (length texts))) (λ fits. Lines.tell_line draft name texts)) _ (ScriptLine (TellWord node numbers))
     (then_ (λ fits. Lines.tell_line draft name texts) tt (counts 1 5 (suc (length texts)) (omega arith) (omega (arith, long, most))) ∙ tells)
 word_said known draft (HoldWord node) named fits some few =
-    kind_says (Lines.hold_line draft (name_of draft.nodes node)) _ (ScriptLine (HoldWord node))
     (then_ (λ node. Lines.script_line draft (HoldWord node)) node (node_found draft.nodes node named fits) ∙ script_says draft (HoldWord node) some few)
 word_said known draft (DropWord node) named fits some few =
-    kind_says (Lines.drop_line draft (name_of draft.nodes node)) _ (ScriptLine (DropWord node))
     (then_ (λ node. Lines.script_line draft (DropWord node)) node (node_found draft.nodes node named fits) ∙ script_says draft (DropWord node) some few)
 word_said known draft (WaitWord block) named fits some few =
-    kind_says (Lines.wait_line draft (decimal block)) _ (ScriptLine (WaitWord block))
     (then_ (λ block. Lines.script_line draft (WaitWord block)) block (any_reads block (is_small block fits)) ∙ script_says draft (WaitWord block) some few)
 
 abbrev pub scripts_state : List ClassInfo → Content → List (Option (List ℕ)) → List (List (ℕ × ℕ)) → Bool → List (List ScriptWord) → ℕ → Draft
@@ -116,7 +113,7 @@ module _ (known : List ClassInfo) (content : Content) (presets : List (Option (L
       let line = codes "editor" ∷ decimal editor ∷ [] in
       let W : List ScriptWord → Type 0 = λ script. All (IsScriptWord (length content.nodes)) script in
       let words = one_more (codes "editor") (decimal editor ∷ []) (code_word (codes "editor") refl) (one_word (decimal editor) (number_word editor (omega (arith, few)))) in
-      let first = goes_line known line (at in_lane before count) EditorLine words refl (λ stand. kind_says (Lines.editor_line (with_lines stand (at in_lane before count)) (decimal editor)) _ EditorLine (editor_says (with_lines stand (at in_lane before count)) editor next (omega (arith, few)))) in
+      let first = goes_line known line (at in_lane before count) EditorLine words refl (λ stand. (editor_says (with_lines stand (at in_lane before count)) editor next (omega (arith, few)))) in
       let own = words_go before [] script count (fits 0 script (omega arith)) (omega (arith, short)) in
       let long = length-append before (script ∷ []) in
       let rest = scripts_go (before ++ script ∷ []) scripts (editor + 1) (count + length script) false (omega (arith, next, long)) (omega (arith, few)) (omega (arith, short)) (All-tail W script scripts fits) in

@@ -10,13 +10,14 @@ use Rattle.vh_session.specs.declared.wire.End.{End}
 use Rattle.vh_session.specs.declared.wire.End.TheVariants.{In, Out, Node as AtNode}
 use Rattle.vh_session.specs.declared.wire.Wire.{Wire}
 use Rattle.vh_session.specs.Entry.{LaneText, ScriptWord, BeginWord, PerformWord, EndWord, TellWord, HoldWord, DropWord, WaitWord}
-use Rattle.vh_session.specs.Rules.{is_within}
-use Rattle.vh_session.specs.Text.{line_text, lines_text, name_of, wire_words, end_word, point_words, lane_with, lane_words, lanes_words, script_words, scripts_words}
+use Rattle.vh_text.specs.Numbers.{is_within}
+use Rattle.vh_session.specs.Text.{name_of, wire_words, end_word, point_words, lane_with, lane_words, lanes_words, script_words, scripts_words}
+use Rattle.vh_text.specs.Written.{line_text, lines_text}
 use Rattle.vh_session.specs.Keeps.{EachBehind, IsNodeBehind, IsScriptWord, word_count}
 use Rattle.vh_session.proofs.Behind.{behind_all}
 use Rattle.vh_session.proofs.Found.{is_small}
 use Rattle.vh_session.proofs.Sizes.{line_size, mapped_size, name_size, number_size, value_size, numbers_size}
-use Rattle.vh_session.proofs.Written.{lines_append}
+use Rattle.vh_text.proofs.Written.{lines_append}
 
 pub within_most : (least most n : ℕ) → is_within least most n ≡ true → n ≤ most
 within_most least most n within = leb-true n most (and_parts (nat_le least n) (nat_le n most) within).1

@@ -4,9 +4,10 @@ use Rattle.std.proofs.lemmas.List.{take_more, take_more_set, take-append-drop}
 use Rattle.std.proofs.Math.ListN.{get_or-map}
 use Rattle.std.proofs.lemmas.List.{length-map}
 use Rattle.std.specs.Borrow.{Bor}
-use Rattle.vh_session.specs.Seen.{texts}
+use Rattle.vh_text.specs.Tokens.{texts}
 use Rattle.vh_session.specs.declared.fault.SessionKind.{SessionKind}
-use Rattle.vh_session.specs.Rules.{Checked, given, number_that, numbers_that}
+use Rattle.vh_session.specs.Rules.{Checked, number_that, numbers_that}
+use Rattle.vh_text.specs.Chains.{given}
 
 is_ok_ : {A : Type 0} → Checked A → Bool
 is_ok_ (Ok a) = true

@@ -11,7 +11,7 @@ use Rattle.vh_params.specs.Names.{is_name}
 use Rattle.vh_params.specs.declared.param.ParamInfo.{ParamInfo}
 use Rattle.vh_params.specs.Nodes.{Node}
 use Rattle.vh_session.specs.Content.{first_of, value_in, firsts_from}
-use Rattle.vh_session.specs.Text.{further_text, line_text, lines_text}
+use Rattle.vh_text.specs.Written.{further_text, line_text, lines_text}
 use Rattle.vh_session.specs.Keeps.{ArePresets}
 use Rattle.vh_session.proofs.WordsOf.{name_rules}
 

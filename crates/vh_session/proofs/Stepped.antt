@@ -4,7 +4,7 @@ use Rattle.std.specs.Prelude.{All}
 use Rattle.vh_params.specs.declared.class.ClassInfo.{ClassInfo}
 use Rattle.vh_session.specs.Entry.{Entry, Draft, with_entry}
 use Rattle.vh_session.specs.Lines.{line_of}
-use Rattle.vh_session.specs.Rules.{given}
+use Rattle.vh_text.specs.Chains.{given}
 use Rattle.vh_session.specs.Reading.{lines_from, after_line, is_skipped, with_line}
 
 pub one_line : (classes : List ClassInfo) (line : ℕ) (draft after : Draft) (all : List (List ℕ)) (text : List ℕ) (rest : List (List ℕ)) → all ≡ text ∷ rest → after_line classes line draft text ≡ Ok after

@@ -13,15 +13,19 @@ use Rattle.vh_session.specs.declared.wire.Wire.{Wire}
 use Rattle.vh_session.specs.Content.{Content}
 use Rattle.vh_session.specs.Entry.{Draft, WireLine}
 use Rattle.vh_session.specs.Lines.{line_of_words, wire_line, has_aux}
-use Rattle.vh_session.specs.Rules.{Checked, given, the_node, first_end, last_end}
+use Rattle.vh_session.specs.Rules.{Checked, the_node, first_end, last_end}
+use Rattle.vh_text.specs.Chains.{given}
 use Rattle.vh_session.specs.Text.{wire_words, end_word, name_of}
-use Rattle.vh_session.specs.Keeps.{EachBehind, IsNodeBehind, IsWireBehind, Begins, Ends, buses_of, IsWord}
+use Rattle.vh_session.specs.Keeps.{EachBehind, IsNodeBehind, IsWireBehind, Begins, Ends, buses_of}
+use Rattle.vh_text.specs.Tokens.{IsWord}
 use Rattle.vh_session.proofs.Behind.{behind_all}
 use Rattle.vh_session.proofs.Found.{node_found}
 use Rattle.vh_session.proofs.Goes.{Goes, with_lines, goes_none, goes_on_to, goes_line, goes_same}
 use Rattle.vh_session.proofs.NodesBack.{state}
-use Rattle.vh_session.proofs.Says.{kind_says, wire_says, then_}
-use Rattle.vh_session.proofs.WordsOf.{code_word, name_rules, name_word, no_words, one_more}
+use Rattle.vh_session.proofs.Says.{wire_says}
+use Rattle.vh_text.proofs.Gives.{then_}
+use Rattle.vh_session.proofs.WordsOf.{name_rules, name_word}
+use Rattle.vh_text.proofs.WordsOf.{code_word, no_words, one_more}
 
 named : (nodes : List Node) (node : ℕ) → EachBehind IsNodeBehind [] nodes → node < length nodes → is_name (name_of nodes node) ≡ true
 named nodes node each lt = behind_all IsNodeBehind (λ n. is_name n.name ≡ true) [] nodes (λ before n stands. stands.named) each node no_node lt
@@ -66,8 +70,8 @@ wire_said known draft wire each stands bus few =
     let start = end_word draft.nodes wire.from in
     let end = end_word draft.nodes wire.to in
     elim wire.aux as (λ aux. wire.aux ≡ aux → line_of_words known draft (codes "wire" ∷ start ∷ end ∷ (if aux then codes "aux" ∷ [] else [])) ≡ Ok (WireLine wire)) [
-      | true ↦ λ is. kind_says (wire_line draft start end (Some (codes "aux"))) _ (WireLine wire) (wire_says draft start end (Some (codes "aux")) wire from to (sym is) (not_from_true (has_aux draft.aux wire.to) (bus is)) stands.new few)
-      | false ↦ λ is. kind_says (wire_line draft start end None) _ (WireLine wire) (wire_says draft start end None wire from to (sym is) refl stands.new few)
+      | true ↦ λ is. (wire_says draft start end (Some (codes "aux")) wire from to (sym is) (not_from_true (has_aux draft.aux wire.to) (bus is)) stands.new few)
+      | false ↦ λ is. (wire_says draft start end None wire from to (sym is) refl stands.new few)
     ] refl
 
 pub wires_go : (known : List ClassInfo) (content : Content) (presets : List (Option (List ℕ))) (firsts : List (List (ℕ × ℕ))) (before wires : List Wire) → EachBehind IsNodeBehind [] content.nodes → EachBehind (IsWireBehind (length content.nodes)) before wires → All (λ wire. wire.aux ≡ true → has_aux (buses_of known content.nodes) wire.to ≡ true) wires → length before + length wires ≤ 256

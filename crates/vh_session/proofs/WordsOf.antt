@@ -1,4 +1,4 @@
--- Which texts are words.
+-- Names are words.
 use Rattle.std.proofs.Common.{◌≡◌, inl, inr, ℕ, ◌≤◌, ◌==◌, Bool, true, false, List, [], ◌∷◌, length, arith}
 use Rattle.std.specs.Prelude.{All, nat_le, ◌&&◌, ◌||◌, not, codes, slice_index}
 use Rattle.std.specs.List.{list_all}
@@ -6,23 +6,7 @@ use Rattle.std.specs.Str.{bytes_eq}
 use Rattle.std.proofs.lemmas.Bool.{and_parts, leb-true, not-true, or_cases, eqb-true}
 use Rattle.std.proofs.lemmas.List.Elements.{All-cons}
 use Rattle.vh_params.specs.Names.{is_name, is_name_byte, is_lower, is_digit}
-use Rattle.vh_session.specs.Keeps.{IsWord}
-
-abbrev pub is_mark : ℕ → Bool
-is_mark b = nat_le 33 b && nat_le b 126
-
-abbrev pub is_code : List ℕ → Bool
-is_code text = nat_le 1 (length text) && list_all is_mark text
-
-marks : (bs : List ℕ) → list_all is_mark bs ≡ true → All (λ b. (33 ≤ b) × (b ≤ 126)) bs
-marks [] is = λ k d lt. absurd (omega (arith, lt))
-marks (b ∷ bs) is =
-    let both = and_parts (is_mark b) (list_all is_mark bs) is in
-    let ends = and_parts (nat_le 33 b) (nat_le b 126) both.0 in
-    All-cons (λ b. (33 ≤ b) × (b ≤ 126)) b bs (leb-true 33 b ends.0, leb-true b 126 ends.1) (marks bs both.1)
-
-pub code_word : (text : List ℕ) → is_code text ≡ true → IsWord text
-code_word text is = let both = and_parts (nat_le 1 (length text)) (list_all is_mark text) is in (leb-true 1 (length text) both.0, marks text both.1)
+use Rattle.vh_text.specs.Tokens.{IsWord}
 
 name_byte : (b : ℕ) → is_name_byte b ≡ true → (33 ≤ b) × (b ≤ 126)
 name_byte b is = elim (or_cases (is_lower b || is_digit b) (b == 95) is) [
@@ -61,11 +45,3 @@ name_rules text is =
 
 pub name_word : (text : List ℕ) → is_name text ≡ true → IsWord text
 name_word text is = let rules = name_rules text is in (rules.some, name_bytes text rules.bytes)
-
--- words in a row
-
-pub no_words : All IsWord []
-no_words = λ k d lt. absurd (omega (arith, lt))
-
-pub one_more : (word : List ℕ) (words : List (List ℕ)) → IsWord word → All IsWord words → All IsWord (word ∷ words)
-one_more word words is all = All-cons IsWord word words is all

@@ -12,22 +12,21 @@ use Rattle.vh_session.specs.declared.wire.End.{End}
 use Rattle.vh_session.specs.declared.wire.End.TheVariants.{In, Out, Node as AtNode}
 use Rattle.vh_session.specs.declared.wire.Wire.{Wire}
 use Rattle.vh_session.specs.Entry.{ScriptWord, BeginWord, PerformWord, EndWord, TellWord, HoldWord, DropWord, WaitWord, LaneText}
-use Rattle.vh_session.specs.Rules.{is_within, is_read_only, can_automate, node_named, class_named}
+use Rattle.vh_session.specs.Rules.{is_read_only, can_automate, node_named, class_named}
+use Rattle.vh_text.specs.Numbers.{is_within}
+use Rattle.vh_text.specs.Tokens.{IsWord}
 use Rattle.vh_session.specs.Lines.{one, is_bits, is_any, has_wire, has_lane, has_aux}
 use Rattle.vh_session.specs.Content.{Content, node_wires}
+use Rattle.vh_session.specs.Limits.{most_frames, most_sizes, most_size, most_nodes, most_file, most_wires, most_lanes, most_grain, most_editors, most_script_words, most_numbers}
 
 -- each of these stands rightly behind those before it
 abbrev pub EachBehind : {A : Type 0} → (List A → A → Type 0) → List A → List A → Type 0
 EachBehind Stands before [] = ⊤
 EachBehind Stands before (x ∷ xs) = Stands before x × EachBehind Stands (before ++ x ∷ []) xs
 
--- at least one byte, all printable and none a space
-abbrev pub IsWord : List ℕ → Type 0
-IsWord text = (1 ≤ length text) × All (λ b. (33 ≤ b) × (b ≤ 126)) text
-
--- 1 to 16 sizes of 1 to 8192
+-- at least one size, none of them 0
 abbrev pub AreSizes : List ℕ → Type 0
-AreSizes sizes = (1 ≤ length sizes) × (length sizes ≤ 16) × All (λ size. is_within 1 8192 size ≡ true) sizes
+AreSizes sizes = (1 ≤ length sizes) × (length sizes ≤ most_sizes) × All (λ size. is_within 1 most_size size ≡ true) sizes
 
 -- a node with a name of its own
 pub record IsNodeBehind (before : List Node) (node : Node) : Type 0 where
@@ -37,11 +36,11 @@ pub record IsNodeBehind (before : List Node) (node : Node) : Type 0 where
   pub rising : AreRising node.params
 
 abbrev pub AreNodes : List Node → Type 0
-AreNodes nodes = (length nodes ≤ 64) × EachBehind IsNodeBehind [] nodes
+AreNodes nodes = (length nodes ≤ most_nodes) × EachBehind IsNodeBehind [] nodes
 
 -- the name of a file
 abbrev pub IsFile : List ℕ → Type 0
-IsFile file = IsWord file × (length file ≤ 255)
+IsFile file = IsWord file × (length file ≤ most_file)
 
 -- presets by rising node, from this node on
 abbrev pub ArePresets : ℕ → ℕ → List (ℕ × List ℕ) → Type 0
@@ -97,13 +96,13 @@ pub record IsLaneBehind (nodes : List Node) (before : List LaneText) (lane : Lan
   pub param : has_automation nodes lane.node lane.id ≡ true
   pub id : is_any lane.id ≡ true
   pub new : has_lane before lane.node lane.id ≡ false
-  pub grain : is_within 0 24 lane.grain ≡ true
+  pub grain : is_within 0 most_grain lane.grain ≡ true
   pub breaks : AreBreaks lane.breaks
-  pub samples : All (λ break. is_within 0 16777216 break.0 ≡ true) lane.breaks
+  pub samples : All (λ break. is_within 0 most_frames break.0 ≡ true) lane.breaks
 
--- numbers below 2^32, at most 4
+-- the numbers of a message
 abbrev pub AreNumbers : List ℕ → Type 0
-AreNumbers numbers = (length numbers ≤ 4) × All (λ n. is_any n ≡ true) numbers
+AreNumbers numbers = (length numbers ≤ most_numbers) × All (λ n. is_any n ≡ true) numbers
 
 -- a script's word names a node that is there
 abbrev pub IsScriptWord : ℕ → ScriptWord → Type 0
@@ -119,24 +118,24 @@ abbrev pub word_count : List (List ScriptWord) → ℕ
 word_count [] = 0
 word_count (script ∷ scripts) = length script + word_count scripts
 
--- at most 8 scripts, of 4096 words in all
+-- the scripts by editor
 pub record AreScripts (count : ℕ) (scripts : List (List ScriptWord)) : Type 0 where
-  pub few : length scripts ≤ 8
-  pub short : word_count scripts ≤ 4096
+  pub few : length scripts ≤ most_editors
+  pub short : word_count scripts ≤ most_script_words
   pub words : All (λ script. All (IsScriptWord count) script) scripts
 
 pub record IsSession (content : Content) : Type 0 where
-  pub frames : is_within 0 16777216 content.length ≡ true
+  pub frames : is_within 0 most_frames content.length ≡ true
   pub channels : is_within 1 2 content.channels ≡ true
   pub bits : is_bits content.bits ≡ true
   pub pattern : AreSizes content.pattern
   pub nodes : AreNodes content.nodes
   pub presets : ArePresets (length content.nodes) 0 content.presets
   pub firsts : EachBehind (IsFirstBehind content.nodes) [] content.firsts
-  pub few_wires : length content.wires ≤ 256
+  pub few_wires : length content.wires ≤ most_wires
   pub wires : EachBehind (IsWireBehind (length content.nodes)) [] content.wires
   pub free : (node : ℕ) → ¬ IsOnCycle (node_wires content.wires) node
-  pub few_lanes : length content.lanes ≤ 256
+  pub few_lanes : length content.lanes ≤ most_lanes
   pub lanes : EachBehind (IsLaneBehind content.nodes) [] content.lanes
   pub scripts : AreScripts (length content.nodes) content.scripts
 

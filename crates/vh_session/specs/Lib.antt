@@ -1,6 +1,8 @@
+pub mod Limits
 pub mod Kinds
 pub mod Entry
 pub mod Rules
+pub mod LineKinds
 pub mod Lines
 pub mod Reading
 pub mod Seen

@@ -1,17 +1,23 @@
 -- What each kind of line says, after the lines before it.
 use Rattle.std.specs.Prelude.{ℕ, ◌+◌, ◌-◌, ◌^◌, Bool, false, not, ◌&&◌, ◌||◌, ◌==◌, nat_le, nat_lt, List, [], ◌∷◌, length, take, drop, map, slice_index_or, Option, Some, None, Ok, Err, if◌then◌else◌, codes}
 use Rattle.std.specs.List.{list_any, slice_get}
-use Rattle.std.specs.Option.{is_some}
+use Rattle.std.specs.Option.{is_some, ok_or}
 use Rattle.std.specs.Str.{bytes_eq}
 use Rattle.vh_text.specs.Tokens.{bad_byte, words_of}
 use Rattle.vh_params.specs.declared.class.ClassInfo.{ClassInfo}
 use Rattle.vh_params.specs.Names.{is_name}
 use Rattle.vh_session.specs.declared.fault.SessionKind.TheVariants.{BadByte, UnknownWord, BadName, Repeated, DuplicateNode, BadWire, BadLane, BadEditor, TooMany}
+use Rattle.vh_session.specs.declared.kind.LineKind.{LineKind}
+use Rattle.vh_session.specs.declared.kind.LineKind.TheVariants as kind
+use Rattle.vh_session.specs.LineKinds.{kind_named, least_words, most_words}
 use Rattle.vh_session.specs.declared.wire.End.{End}
 use Rattle.vh_session.specs.declared.wire.End.TheVariants.{In, Out, Node as AtNode}
 use Rattle.vh_session.specs.declared.wire.Wire.{Wire}
 use Rattle.vh_session.specs.Entry.{Entry, LengthLine, ChannelsLine, BitsLine, PatternLine, NodeLine, PresetLine, ParamLine, WireLine, LaneLine, PointLine, EditorLine, ScriptLine, ScriptWord, BeginWord, PerformWord, EndWord, TellWord, HoldWord, DropWord, WaitWord, LaneText, Draft, last_sample, break_count}
-use Rattle.vh_session.specs.Rules.{Checked, given, unless, word, arity, any_number, number_that, number_within, numbers_that, is_within, node_named, the_node, the_class, settable_param, can_automate, first_end, last_end}
+use Rattle.vh_session.specs.Rules.{Checked, word, arity, any_number, number_that, number_within, numbers_that, node_named, the_node, the_class, settable_param, can_automate, first_end, last_end}
+use Rattle.vh_text.specs.Numbers.{is_within}
+use Rattle.vh_text.specs.Chains.{given, fault_if}
+use Rattle.vh_session.specs.Limits.{most_frames, most_size, most_nodes, most_file, most_wires, most_lanes, most_grain, most_breaks, most_editors, most_script_words}
 
 -- the normalised value 1.0
 abbrev pub one : ℕ
@@ -20,15 +26,15 @@ one = 2 ^ 24
 -- `length L`
 abbrev pub length_line : Draft → List ℕ → Checked Entry
 length_line draft text =
-    given (number_within 0 16777216 text) (λ n.
-    unless (is_some draft.length) Repeated
+    given (number_within 0 most_frames text) (λ n.
+    fault_if (is_some draft.length) Repeated
     (Ok (LengthLine n)))
 
 -- `channels C`
 abbrev pub channels_line : Draft → List ℕ → Checked Entry
 channels_line draft text =
     given (number_within 1 2 text) (λ n.
-    unless (is_some draft.channels) Repeated
+    fault_if (is_some draft.channels) Repeated
     (Ok (ChannelsLine n)))
 
 abbrev pub is_bits : ℕ → Bool
@@ -38,34 +44,34 @@ is_bits n = (n == 16) || (n == 24)
 abbrev pub bits_line : Draft → List ℕ → Checked Entry
 bits_line draft text =
     given (number_that is_bits text) (λ n.
-    unless (is_some draft.bits) Repeated
+    fault_if (is_some draft.bits) Repeated
     (Ok (BitsLine n)))
 
 -- `pattern N ..`
 abbrev pub pattern_line : Draft → List (List ℕ) → Checked Entry
 pattern_line draft texts =
-    given (numbers_that (is_within 1 8192) texts) (λ sizes.
-    unless (nat_lt 0 (length draft.pattern)) Repeated
+    given (numbers_that (is_within 1 most_size) texts) (λ sizes.
+    fault_if (nat_lt 0 (length draft.pattern)) Repeated
     (Ok (PatternLine sizes)))
 
--- `node NAME CLASS`, at most 64 of them
+-- `node NAME CLASS`
 abbrev pub node_line : List ClassInfo → Draft → List ℕ → List ℕ → Checked Entry
 node_line classes draft name class_name =
-    unless (not (is_name name)) BadName
+    fault_if (not (is_name name)) BadName
     (given (the_class classes class_name) (λ class.
-    unless (is_some (node_named draft.nodes name)) DuplicateNode
-    (unless (nat_le 64 (length draft.nodes)) TooMany
+    fault_if (is_some (node_named draft.nodes name)) DuplicateNode
+    (fault_if (nat_le most_nodes (length draft.nodes)) TooMany
     (Ok (NodeLine name class)))))
 
 abbrev pub has_preset : List (Option (List ℕ)) → ℕ → Bool
 has_preset presets node = is_some (slice_index_or presets node None)
 
--- `preset NODE FILE`, with a file name of at most 255 bytes
+-- `preset NODE FILE`
 abbrev pub preset_line : Draft → List ℕ → List ℕ → Checked Entry
 preset_line draft name file =
     given (the_node draft.nodes name) (λ node.
-    unless (nat_lt 255 (length file)) BadName
-    (unless (has_preset draft.presets node) Repeated
+    fault_if (nat_lt most_file (length file)) BadName
+    (fault_if (has_preset draft.presets node) Repeated
     (Ok (PresetLine node file))))
 
 abbrev pub has_first : List (List (ℕ × ℕ)) → ℕ → ℕ → Bool
@@ -77,7 +83,7 @@ param_line draft name id value =
     given (the_node draft.nodes name) (λ node.
     given (settable_param draft.nodes node id) (λ param.
     given (number_within 0 one value) (λ first.
-    unless (has_first draft.firsts node param.id) Repeated
+    fault_if (has_first draft.firsts node param.id) Repeated
     (Ok (ParamLine node param.id first)))))
 
 abbrev pub end_number : End → ℕ
@@ -105,11 +111,11 @@ lacks_bus aux to (Some further) = not (bytes_eq further (codes "aux") && has_aux
 
 abbrev pub wire_between : Draft → Option (List ℕ) → Wire → Checked Entry
 wire_between draft further wire =
-    unless (lacks_bus draft.aux wire.to further || has_wire draft.wires wire) BadWire
-    (unless (nat_le 256 (length draft.wires)) TooMany
+    fault_if (lacks_bus draft.aux wire.to further || has_wire draft.wires wire) BadWire
+    (fault_if (nat_le most_wires (length draft.wires)) TooMany
     (Ok (WireLine wire)))
 
--- `wire FROM TO` and `wire FROM TO aux`, at most 256 of them
+-- `wire FROM TO` and `wire FROM TO aux`
 abbrev pub wire_line : Draft → List ℕ → List ℕ → Option (List ℕ) → Checked Entry
 wire_line draft from_text to_text further =
     given (first_end draft.nodes from_text) (λ from.
@@ -119,40 +125,40 @@ wire_line draft from_text to_text further =
 abbrev pub has_lane : List LaneText → ℕ → ℕ → Bool
 has_lane lanes node id = list_any (λ lane. (lane.node == node) && (lane.id == id)) lanes
 
--- `lane NODE ID GRAIN SAMPLE VALUE`, at most 256 of them
+-- `lane NODE ID GRAIN SAMPLE VALUE`
 abbrev pub lane_line : Draft → List ℕ → List ℕ → List ℕ → List ℕ → List ℕ → Checked Entry
 lane_line draft name id grain_text sample_text value_text =
     given (the_node draft.nodes name) (λ node.
     given (settable_param draft.nodes node id) (λ param.
-    given (number_within 0 24 grain_text) (λ grain.
-    given (number_within 0 16777216 sample_text) (λ sample.
+    given (number_within 0 most_grain grain_text) (λ grain.
+    given (number_within 0 most_frames sample_text) (λ sample.
     given (number_within 0 one value_text) (λ value.
-    unless (not (can_automate param) || has_lane draft.lanes node param.id) BadLane
-    (unless (nat_le 256 (length draft.lanes)) TooMany
+    fault_if (not (can_automate param) || has_lane draft.lanes node param.id) BadLane
+    (fault_if (nat_le most_lanes (length draft.lanes)) TooMany
     (Ok (LaneLine node param.id grain sample value))))))))
 
--- `point SAMPLE VALUE`, at most 4096 breakpoints a lane
+-- `point SAMPLE VALUE`
 abbrev pub point_line : Draft → List ℕ → List ℕ → Checked Entry
 point_line draft sample_text value_text =
-    given (number_within 0 16777216 sample_text) (λ sample.
+    given (number_within 0 most_frames sample_text) (λ sample.
     given (number_within 0 one value_text) (λ value.
-    unless (not draft.in_lane || nat_le sample (last_sample draft.lanes)) BadLane
-    (unless (nat_le 4096 (break_count draft.lanes)) TooMany
+    fault_if (not draft.in_lane || nat_le sample (last_sample draft.lanes)) BadLane
+    (fault_if (nat_le most_breaks (break_count draft.lanes)) TooMany
     (Ok (PointLine sample value)))))
 
--- `editor N`, at most 8 of them
+-- `editor N`
 abbrev pub editor_line : Draft → List ℕ → Checked Entry
 editor_line draft text =
     given (any_number text) (λ n.
-    unless (not (n == length draft.scripts)) BadEditor
-    (unless (nat_le 8 (length draft.scripts)) TooMany
+    fault_if (not (n == length draft.scripts)) BadEditor
+    (fault_if (nat_le most_editors (length draft.scripts)) TooMany
     (Ok EditorLine)))
 
--- a word of the last editor's script, at most 4096 of them in all
+-- a word of the last editor's script
 abbrev pub script_line : Draft → ScriptWord → Checked Entry
 script_line draft script_word =
-    unless (length draft.scripts == 0) BadEditor
-    (unless (nat_le 4096 draft.script_count) TooMany
+    fault_if (length draft.scripts == 0) BadEditor
+    (fault_if (nat_le most_script_words draft.script_count) TooMany
     (Ok (ScriptLine script_word)))
 
 -- `begin NODE ID`
@@ -195,63 +201,33 @@ wait_line draft text = given (any_number text) (λ block. script_line draft (Wai
 abbrev pub third : List (List ℕ) → Option (List ℕ)
 third words = slice_get words 2
 
--- a line that begins with the right word, or none
-abbrev pub this_line : Checked Entry → Checked (Option Entry)
-this_line line = given line (λ entry. Ok (Some entry))
+-- what a line of this kind says, whose words behind the first are as many as it takes
+abbrev pub line_of_kind : List ClassInfo → Draft → LineKind → List (List ℕ) → Checked Entry
+line_of_kind classes draft kind.Length words = length_line draft (word words 0)
+line_of_kind classes draft kind.Channels words = channels_line draft (word words 0)
+line_of_kind classes draft kind.Bits words = bits_line draft (word words 0)
+line_of_kind classes draft kind.Pattern words = pattern_line draft words
+line_of_kind classes draft kind.Node words = node_line classes draft (word words 0) (word words 1)
+line_of_kind classes draft kind.Preset words = preset_line draft (word words 0) (word words 1)
+line_of_kind classes draft kind.Param words = param_line draft (word words 0) (word words 1) (word words 2)
+line_of_kind classes draft kind.Wire words = wire_line draft (word words 0) (word words 1) (third words)
+line_of_kind classes draft kind.Lane words = lane_line draft (word words 0) (word words 1) (word words 2) (word words 3) (word words 4)
+line_of_kind classes draft kind.Point words = point_line draft (word words 0) (word words 1)
+line_of_kind classes draft kind.Editor words = editor_line draft (word words 0)
+line_of_kind classes draft kind.Begin words = begin_line draft (word words 0) (word words 1)
+line_of_kind classes draft kind.Perform words = perform_line draft (word words 0) (word words 1) (word words 2)
+line_of_kind classes draft kind.End words = end_line draft (word words 0) (word words 1)
+line_of_kind classes draft kind.Tell words = tell_line draft (word words 0) (drop 1 words)
+line_of_kind classes draft kind.Hold words = hold_line draft (word words 0)
+line_of_kind classes draft kind.Drop words = drop_line draft (word words 0)
+line_of_kind classes draft kind.Wait words = wait_line draft (word words 0)
 
-abbrev pub or_line : Checked (Option Entry) → Checked Entry → Checked Entry
-or_line (Ok (Some entry)) next = Ok entry
-or_line (Ok None) next = next
-or_line (Err kind) next = Err kind
-
--- Each of these takes a line's first word and the words behind it.
-
-abbrev pub settings_line : Draft → List ℕ → List (List ℕ) → Checked (Option Entry)
-settings_line draft first words =
-    if bytes_eq first (codes "length") then this_line (given (arity 1 1 (length words)) (λ fits. length_line draft (word words 0)))
-    else if bytes_eq first (codes "channels") then this_line (given (arity 1 1 (length words)) (λ fits. channels_line draft (word words 0)))
-    else if bytes_eq first (codes "bits") then this_line (given (arity 1 1 (length words)) (λ fits. bits_line draft (word words 0)))
-    else if bytes_eq first (codes "pattern") then this_line (given (arity 1 16 (length words)) (λ fits. pattern_line draft words))
-    else Ok None
-
-abbrev pub graph_line : List ClassInfo → Draft → List ℕ → List (List ℕ) → Checked (Option Entry)
-graph_line classes draft first words =
-    if bytes_eq first (codes "node") then this_line (given (arity 2 2 (length words)) (λ fits. node_line classes draft (word words 0) (word words 1)))
-    else if bytes_eq first (codes "preset") then this_line (given (arity 2 2 (length words)) (λ fits. preset_line draft (word words 0) (word words 1)))
-    else if bytes_eq first (codes "param") then this_line (given (arity 3 3 (length words)) (λ fits. param_line draft (word words 0) (word words 1) (word words 2)))
-    else if bytes_eq first (codes "wire") then this_line (given (arity 2 3 (length words)) (λ fits. wire_line draft (word words 0) (word words 1) (third words)))
-    else Ok None
-
-abbrev pub lanes_line : Draft → List ℕ → List (List ℕ) → Checked (Option Entry)
-lanes_line draft first words =
-    if bytes_eq first (codes "lane") then this_line (given (arity 5 5 (length words)) (λ fits. lane_line draft (word words 0) (word words 1) (word words 2) (word words 3) (word words 4)))
-    else if bytes_eq first (codes "point") then this_line (given (arity 2 2 (length words)) (λ fits. point_line draft (word words 0) (word words 1)))
-    else if bytes_eq first (codes "editor") then this_line (given (arity 1 1 (length words)) (λ fits. editor_line draft (word words 0)))
-    else Ok None
-
-abbrev pub edits_line : Draft → List ℕ → List (List ℕ) → Checked (Option Entry)
-edits_line draft first words =
-    if bytes_eq first (codes "begin") then this_line (given (arity 2 2 (length words)) (λ fits. begin_line draft (word words 0) (word words 1)))
-    else if bytes_eq first (codes "perform") then this_line (given (arity 3 3 (length words)) (λ fits. perform_line draft (word words 0) (word words 1) (word words 2)))
-    else if bytes_eq first (codes "end") then this_line (given (arity 2 2 (length words)) (λ fits. end_line draft (word words 0) (word words 1)))
-    else if bytes_eq first (codes "tell") then this_line (given (arity 1 5 (length words)) (λ fits. tell_line draft (word words 0) (drop 1 words)))
-    else Ok None
-
-abbrev pub holds_line : Draft → List ℕ → List (List ℕ) → Checked (Option Entry)
-holds_line draft first words =
-    if bytes_eq first (codes "hold") then this_line (given (arity 1 1 (length words)) (λ fits. hold_line draft (word words 0)))
-    else if bytes_eq first (codes "drop") then this_line (given (arity 1 1 (length words)) (λ fits. drop_line draft (word words 0)))
-    else if bytes_eq first (codes "wait") then this_line (given (arity 1 1 (length words)) (λ fits. wait_line draft (word words 0)))
-    else Ok None
-
+-- the kind of a line by its first word, then as many words as it takes, then its rule
 abbrev pub line_of_word : List ClassInfo → Draft → List ℕ → List (List ℕ) → Checked Entry
 line_of_word classes draft first words =
-    or_line (settings_line draft first words)
-    (or_line (graph_line classes draft first words)
-    (or_line (lanes_line draft first words)
-    (or_line (edits_line draft first words)
-    (or_line (holds_line draft first words)
-    (Err UnknownWord)))))
+    given (ok_or (kind_named first) UnknownWord) (λ kind.
+    given (arity (least_words kind) (most_words kind) (length words)) (λ fits.
+    line_of_kind classes draft kind words))
 
 abbrev pub line_of_words : List ClassInfo → Draft → List (List ℕ) → Checked Entry
 line_of_words classes draft [] = Err UnknownWord
@@ -259,4 +235,4 @@ line_of_words classes draft (first ∷ words) = line_of_word classes draft first
 
 -- what a line says, or its first fault
 abbrev pub line_of : List ClassInfo → Draft → List ℕ → Checked Entry
-line_of classes draft text = unless (is_some (bad_byte text)) BadByte (line_of_words classes draft (words_of text))
+line_of classes draft text = fault_if (is_some (bad_byte text)) BadByte (line_of_words classes draft (words_of text))

@@ -10,7 +10,9 @@ use Rattle.vh_session.specs.declared.fault.SessionKind.TheVariants.{BadHeader, N
 use Rattle.vh_session.specs.declared.fault.SessionFault.{SessionFault}
 use Rattle.vh_session.specs.Entry.{Entry, Draft, no_draft, with_entry}
 use Rattle.vh_session.specs.Lines.{line_of}
-use Rattle.vh_session.specs.Rules.{given, unless, word}
+use Rattle.vh_session.specs.Rules.{word}
+use Rattle.vh_text.specs.Chains.{given, fault_if}
+use Rattle.vh_session.specs.Limits.{session_limit}
 
 abbrev pub fault : ℕ → SessionKind → SessionFault
 fault line kind = record { line = line; kind = kind }
@@ -44,21 +46,18 @@ is_header text = not (is_some (bad_byte text)) && are_header (words_of text)
 -- the first line, and then what the others come to
 abbrev pub text_from : List ClassInfo → List (List ℕ) → Result Draft SessionFault
 text_from classes [] = Err (fault 1 BadHeader)
-text_from classes (text ∷ texts) = unless (not (is_header text)) (fault 1 BadHeader) (lines_from classes 2 no_draft texts)
+text_from classes (text ∷ texts) = fault_if (not (is_header text)) (fault 1 BadHeader) (lines_from classes 2 no_draft texts)
 
 -- whether the lines stand that each session has
 abbrev pub is_complete : Draft → Bool
 is_complete draft = (is_some draft.length && is_some draft.channels) && (is_some draft.bits && nat_lt 0 (length draft.pattern))
 
-abbrev pub session_limit : ℕ
-session_limit = 33554432
-
 -- what a text comes to, or its first fault but for a cycle
 abbrev pub draft_of : List ClassInfo → List ℕ → Result Draft SessionFault
 draft_of classes bytes =
-    unless (nat_lt session_limit (length bytes)) (fault 0 TooLong)
+    fault_if (nat_lt session_limit (length bytes)) (fault 0 TooLong)
     (given (text_from classes (lines_of bytes)) (λ draft.
-    unless (not (is_complete draft)) (fault (length (lines_of bytes) + 1) NoLine)
+    fault_if (not (is_complete draft)) (fault (length (lines_of bytes) + 1) NoLine)
     (Ok draft)))
 
 -- the first line whose first word is `preset`, where the first of these lines has this number

@@ -1,9 +1,10 @@
 -- The rules on the words of a line, from the left.
-use Rattle.std.specs.Prelude.{ℕ, ◌+◌, Bool, true, false, not, ◌&&◌, nat_le, nat_lt, List, [], ◌∷◌, slice_index_or, Option, Some, None, Result, Ok, Err, if◌then◌else◌, codes}
+use Rattle.std.specs.Prelude.{ℕ, ◌+◌, Bool, nat_lt, List, [], ◌∷◌, slice_index_or, Option, Some, None, Result, Ok, Err, if◌then◌else◌, codes}
 use Rattle.std.specs.List.{find}
 use Rattle.std.specs.Option.{ok_or}
 use Rattle.std.specs.Str.{bytes_eq}
-use Rattle.vh_text.specs.Numbers.{number_of}
+use Rattle.vh_text.specs.Chains.{given, fault_if}
+use Rattle.vh_text.specs.Numbers.{number_or, passing_number, passing_numbers, is_within}
 use Rattle.vh_params.specs.declared.class.ClassInfo.{ClassInfo}
 use Rattle.vh_params.specs.declared.param.ParamInfo.{ParamInfo}
 use Rattle.vh_params.specs.Nodes.{Node, info_in}
@@ -18,33 +19,20 @@ use Rattle.vh_session.specs.declared.wire.End.TheVariants.{In, Out, Node as AtNo
 abbrev pub Checked : Type 0 → Type 0
 Checked A = Result A SessionKind
 
--- a rule, and what it hands to the next
-abbrev pub given : {A B K : Type 0} → Result A K → (A → Result B K) → Result B K
-given (Ok a) next = next a
-given (Err kind) next = Err kind
-
--- a fault where this holds, else what follows
-abbrev pub unless : {A K : Type 0} → Bool → K → Result A K → Result A K
-unless true kind next = Err kind
-unless false kind next = next
-
 abbrev pub word : List (List ℕ) → ℕ → List ℕ
 word words i = slice_index_or words i []
 
 -- Missing for too few words, Extra for too many
 abbrev pub arity : ℕ → ℕ → ℕ → Checked (Unit {0})
-arity least most count = unless (nat_lt count least) Missing (unless (nat_lt most count) Extra (Ok tt))
+arity least most count = fault_if (nat_lt count least) Missing (fault_if (nat_lt most count) Extra (Ok tt))
 
 -- any number below 2^32
 abbrev pub any_number : List ℕ → Checked ℕ
-any_number text = ok_or (number_of text) BadNumber
+any_number text = number_or BadNumber text
 
 -- a number that passes
 abbrev pub number_that : (ℕ → Bool) → List ℕ → Checked ℕ
-number_that passes text = given (any_number text) (λ n. unless (not (passes n)) BadNumber (Ok n))
-
-abbrev pub is_within : ℕ → ℕ → ℕ → Bool
-is_within least most n = nat_le least n && nat_le n most
+number_that passes text = passing_number BadNumber passes text
 
 -- a number of a range
 abbrev pub number_within : ℕ → ℕ → List ℕ → Checked ℕ
@@ -52,8 +40,7 @@ number_within least most text = number_that (is_within least most) text
 
 -- such numbers, the first fault of them from the left
 abbrev pub numbers_that : (ℕ → Bool) → List (List ℕ) → Checked (List ℕ)
-numbers_that passes [] = Ok []
-numbers_that passes (text ∷ texts) = given (number_that passes text) (λ n. given (numbers_that passes texts) (λ ns. Ok (n ∷ ns)))
+numbers_that passes texts = passing_numbers BadNumber passes texts
 
 -- the number of the node of a name, where the first of these has this number
 abbrev pub node_from : ℕ → List Node → List ℕ → Option ℕ
@@ -84,7 +71,7 @@ can_automate param = flags.is_automatable param.flags
 
 -- a parameter of a node that can be set
 abbrev pub settable_param : List Node → ℕ → List ℕ → Checked ParamInfo
-settable_param nodes node text = given (the_param nodes node text) (λ param. unless (is_read_only param) ReadOnlyParam (Ok param))
+settable_param nodes node text = given (the_param nodes node text) (λ param. fault_if (is_read_only param) ReadOnlyParam (Ok param))
 
 -- an end of a wire, of which this word stands for the session's own
 abbrev pub the_end : List Node → List ℕ → End → List ℕ → Checked End

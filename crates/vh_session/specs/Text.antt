@@ -7,20 +7,7 @@ use Rattle.vh_session.specs.declared.wire.End.TheVariants.{In, Out, Node as AtNo
 use Rattle.vh_session.specs.declared.wire.Wire.{Wire}
 use Rattle.vh_session.specs.Entry.{ScriptWord, BeginWord, PerformWord, EndWord, TellWord, HoldWord, DropWord, WaitWord, LaneText}
 use Rattle.vh_session.specs.Content.{Content}
-
--- the words behind the first, and the line's end
-abbrev pub further_text : List (List ℕ) → List ℕ
-further_text [] = 10 ∷ []
-further_text (word ∷ words) = 32 ∷ (word ++ further_text words)
-
--- a line of words
-abbrev pub line_text : List (List ℕ) → List ℕ
-line_text [] = 10 ∷ []
-line_text (word ∷ words) = word ++ further_text words
-
-abbrev pub lines_text : List (List (List ℕ)) → List ℕ
-lines_text [] = []
-lines_text (line ∷ lines) = line_text line ++ lines_text lines
+use Rattle.vh_text.specs.Written.{lines_text}
 
 abbrev pub name_of : List Node → ℕ → List ℕ
 name_of nodes node = (node_at nodes node).name

@@ -50,12 +50,6 @@ abbrev pub told : Result Line SessionKind → Result Entry SessionKind
 told (Ok entry) = Ok (entry_of entry)
 told (Err kind) = Err kind
 
--- what a line was read as, where it begins with the right word
-abbrev pub may_tell : Result (Option Line) SessionKind → Result (Option Entry) SessionKind
-may_tell (Ok None) = Ok None
-may_tell (Ok (Some entry)) = Ok (Some (entry_of entry))
-may_tell (Err kind) = Err kind
-
 abbrev pub lane_text : LaneDraft → LaneText
 lane_text lane = record { node = lane.node; id = lane.id; grain = lane.grain; breaks = lane.breaks.items }
 

@@ -2,6 +2,7 @@
 
 ghost use Rattle.std.specs.Prelude.{◌≡◌, ◌≤◌, ◌<◌, ◌-◌, ◌^◌, length, slice_index_or, OnOk};
 ghost use Rattle.vh_lane.specs.Values.{AreBreaks};
+ghost use Rattle.vh_session.specs.Limits.{most_grain, most_breaks};
 
 use crate::entry::Entry;
 use crate::wire::Wire;
@@ -44,7 +45,7 @@ pub(crate) struct LaneDraft {
     pub(crate) id: u32,
     pub(crate) grain: u32,
     pub(crate) breaks: Vec<(u32, u32)>,
-    ghost coarse: { grain ≤ 24 },
+    ghost coarse: { grain ≤ most_grain },
     ghost rising: { AreBreaks breaks.items },
 }
 
@@ -61,7 +62,7 @@ impl LaneDraft {
         grain: u32,
         first: (u32, u32),
     ) -> Result<LaneDraft, AllocError>
-        requires coarse { grain ≤ 24 }
+        requires coarse { grain ≤ most_grain }
         requires within { first.1 ≤ 2 ^ 24 }
         ensures { IfOk result (λ lane. lane_text lane ≡ record { node = node; id = id; grain = grain; breaks = first ∷ [] }) }
     {
@@ -76,7 +77,7 @@ impl LaneDraft {
     /// Adds a breakpoint behind the last one.
     fn push(&mut self, sample: u32, value: u32) -> Result<(), AllocError>
         requires behind { (slice_index_or self.old.breaks.items (length self.old.breaks.items - 1) (0, 0)).0 < sample }
-        requires few { length self.old.breaks.items < 4096 }
+        requires few { length self.old.breaks.items < most_breaks }
         requires within { value ≤ 2 ^ 24 }
         ensures { OnOk result (lane_text self.new ≡ with_break (sample, value) (lane_text self.old)) }
     {

@@ -1,16 +1,18 @@
 //! What a line says.
 
 ghost use Rattle.std.specs.Prelude.{◌≡◌, ◌≤◌, length, take};
+ghost use Rattle.vh_session.specs.Limits.{most_sizes};
 
+use crate::limits::MOST_SIZES;
 use crate::wire::Wire;
 use vh_params::{ClassInfo, Word};
 
-/// The sizes of a pattern, at most 16.
+/// The sizes of a pattern.
 #[derive(Clone, Copy)]
 pub(crate) struct Sizes {
-    pub(crate) list: [u32; 16],
+    pub(crate) list: [u32; MOST_SIZES],
     pub(crate) len: usize,
-    ghost within: { len ≤ 16 },
+    ghost within: { len ≤ most_sizes },
 }
 
 impl Sizes {

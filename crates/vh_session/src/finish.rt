@@ -11,6 +11,7 @@ ghost use Rattle.vh_session.specs.Sound.{WireFits, IsSound};
 ghost use Rattle.vh_session.specs.View.{draft_in, lane_text, preset_of};
 ghost use Rattle.vh_session.specs.Ended.{NamesCycle};
 ghost use Rattle.vh_graph.specs.Paths.{IsOnCycle};
+ghost use Rattle.vh_session.specs.Limits.{most_nodes};
 
 use crate::draft::{Draft, LaneDraft, Mark};
 use crate::fault::{SessionFault, SessionKind};
@@ -61,9 +62,7 @@ impl Draft {
         ensures cycle { IfErr result (NamesCycle (draft_in self.now)) }
     {
         let count = self.nodes.len();
-        let Ok(wires) = node_wires(alloc, &self.wires, count) else {
-            return Err(Refusal::Memory);
-        };
+        let wires = node_wires(alloc, &self.wires, count)?;
         match Graph::new(alloc, count, &wires) {
             Ok(_) => Ok(()),
             Err(Refusal::Fault(cycle)) => Err(Refusal::Fault(SessionFault {
@@ -162,7 +161,7 @@ fn firsts(
 
 /// The presets by rising node.
 fn presets(alloc: Global, marks: Vec<Mark>) -> Result<Vec<(u32, Vec<u8>)>, AllocError>
-    requires { length marks.items ≤ 64 }
+    requires { length marks.items ≤ most_nodes }
     ensures { IfOk result (λ presets. map preset_text presets.items ≡ presets_from 0 (map preset_of marks.items)) }
 {
     let mut presets = Vec::new(alloc);

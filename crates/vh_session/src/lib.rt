@@ -6,7 +6,9 @@ mod draft;
 mod entry;
 mod fault;
 mod finish;
+mod kind;
 pub mod laws;
+mod limits;
 mod lines;
 mod numbers;
 mod print;
@@ -14,12 +16,9 @@ mod reader;
 mod rules;
 mod session;
 mod wire;
-mod words;
 
 pub use fault::{SessionFault, SessionKind};
-pub use reader::{SESSION_LIMIT, first_preset, read};
+pub use limits::SESSION_LIMIT;
+pub use reader::{first_preset, read};
 pub use session::Session;
 pub use wire::{End, Wire};
-
-#[cfg(test)]
-mod tests;

@@ -4,14 +4,19 @@ ghost use Rattle.std.specs.Prelude.{◌≡◌, ◌≤◌, ◌==◌, length, opti
 ghost use Rattle.std.specs.List.{list_any};
 ghost use Rattle.vh_params.specs.ClassList.{classes_of};
 ghost use Rattle.vh_session.specs.Lines.{length_line, channels_line, bits_line, node_line, preset_line, param_line, wire_line, lane_line, point_line, editor_line, script_line, begin_line, perform_line, end_line, pattern_line, tell_line, hold_line, drop_line, wait_line, has_preset, has_first, has_wire, lacks_bus, has_lane};
-ghost use Rattle.vh_session.specs.Seen.{texts};
+ghost use Rattle.vh_text.specs.Tokens.{texts};
 ghost use Rattle.vh_session.specs.View.{told, draft_in, entry_of, script_word};
 ghost use Rattle.vh_session.specs.Follows.{MayFollow};
 ghost use Rattle.vh_session.specs.Entry.{last_sample, break_count};
+ghost use Rattle.vh_session.specs.Limits.{most_sizes, most_numbers};
 
 use crate::draft::Draft;
 use crate::entry::{Entry, Sizes};
 use crate::fault::SessionKind;
+use crate::limits::{
+    MOST_BREAKS, MOST_EDITORS, MOST_FILE, MOST_FRAMES, MOST_GRAIN, MOST_LANES, MOST_NODES,
+    MOST_NUMBERS, MOST_SCRIPT_WORDS, MOST_SIZE, MOST_SIZES, MOST_WIRES,
+};
 use crate::numbers::numbers_within;
 use crate::rules::{
     any_number, first_end, last_end, number_of_bits, number_within, settable_param, the_class,
@@ -20,9 +25,6 @@ use crate::rules::{
 use crate::wire::{End, Wire};
 use vh_num::ONE;
 use vh_params::{Classes, Command, Word, Words, is_name};
-
-/// The most frames of a session.
-const MOST_FRAMES: u32 = 16_777_216;
 
 /// Whether one of these first values (id, value) is of this parameter.
 fn has_id(firsts: &[(u32, u32)], id: u32) -> bool
@@ -75,12 +77,12 @@ impl Draft {
 
     /// `pattern N ..`.
     pub(crate) fn pattern_line(&self, words: &[&[u8]]) -> Result<Entry<'static>, SessionKind>
-        requires { length words.now ≤ 16 }
+        requires { length words.now ≤ most_sizes }
         ensures says { told result ≡ pattern_line (draft_in self.now) (texts words.now) }
         ensures follows { IfOk result (λ entry. MayFollow (draft_in self.now) (entry_of entry)) }
     {
-        let mut list = [0u32; 16];
-        numbers_within(words, 1, 8192, &mut list)?;
+        let mut list = [0u32; MOST_SIZES];
+        numbers_within(words, 1, MOST_SIZE, &mut list)?;
         if !self.pattern.is_empty() {
             return Err(SessionKind::Repeated);
         }
@@ -107,7 +109,7 @@ impl Draft {
         if the_node(&self.nodes, name).is_ok() {
             return Err(SessionKind::DuplicateNode);
         }
-        if self.nodes.len() >= 64 {
+        if self.nodes.len() >= MOST_NODES {
             return Err(SessionKind::TooMany);
         }
         Ok(Entry::Node { name, class })
@@ -133,7 +135,7 @@ impl Draft {
         ensures follows { IfOk result (λ entry. MayFollow (draft_in self.now) (entry_of entry)) }
     {
         let node = the_node(&self.nodes, name)?;
-        if file.len() > 255 {
+        if file.len() > MOST_FILE {
             return Err(SessionKind::BadName);
         }
         if self.has_preset(node) {
@@ -224,7 +226,7 @@ impl Draft {
         if self.lacks_bus(to, further) || self.has_wire(&wire) {
             return Err(SessionKind::BadWire);
         }
-        if self.wires.len() >= 256 {
+        if self.wires.len() >= MOST_WIRES {
             return Err(SessionKind::TooMany);
         }
         Ok(Entry::Wire(wire))
@@ -256,13 +258,13 @@ impl Draft {
     {
         let node = the_node(&self.nodes, name)?;
         let param = settable_param(&self.nodes, node, id)?;
-        let grain = number_within(grain, 0, 24)?;
+        let grain = number_within(grain, 0, MOST_GRAIN)?;
         let sample = number_within(sample, 0, MOST_FRAMES)?;
         let value = number_within(value, 0, ONE)?;
         if !param.can_automate() || self.has_lane(node, param.id) {
             return Err(SessionKind::BadLane);
         }
-        if self.lanes.len() >= 256 {
+        if self.lanes.len() >= MOST_LANES {
             return Err(SessionKind::TooMany);
         }
         Ok(Entry::Lane {
@@ -303,7 +305,7 @@ impl Draft {
         if !self.in_lane || sample <= last {
             return Err(SessionKind::BadLane);
         }
-        if count >= 4096 {
+        if count >= MOST_BREAKS {
             return Err(SessionKind::TooMany);
         }
         Ok(Entry::Point { sample, value })
@@ -318,7 +320,7 @@ impl Draft {
         if editor as usize != self.scripts.len() {
             return Err(SessionKind::BadEditor);
         }
-        if self.scripts.len() >= 8 {
+        if self.scripts.len() >= MOST_EDITORS {
             return Err(SessionKind::TooMany);
         }
         Ok(Entry::Editor)
@@ -332,7 +334,7 @@ impl Draft {
         if self.scripts.is_empty() {
             return Err(SessionKind::BadEditor);
         }
-        if self.script_count >= 4096 {
+        if self.script_count >= MOST_SCRIPT_WORDS {
             return Err(SessionKind::TooMany);
         }
         Ok(Entry::Script(word))
@@ -380,12 +382,12 @@ impl Draft {
         name: &[u8],
         words: &[&[u8]],
     ) -> Result<Entry<'static>, SessionKind>
-        requires { length words.now ≤ 4 }
+        requires { length words.now ≤ most_numbers }
         ensures says { told result ≡ tell_line (draft_in self.now) name.now (texts words.now) }
         ensures follows { IfOk result (λ entry. MayFollow (draft_in self.now) (entry_of entry)) }
     {
         let node = the_node(&self.nodes, name)?;
-        let mut list = [0u32; 4];
+        let mut list = [0u32; MOST_NUMBERS];
         numbers_within(words, 0, u32::MAX, &mut list)?;
         let words = Words::new(&list[..words.len()]);
         self.script_line(Word::Edit(Command::Tell { node, words }))

@@ -1,8 +1,9 @@
 //! Several numbers of a line.
 
 ghost use Rattle.std.specs.Prelude.{◌≡◌, ◌≤◌, length, take, drop, MatchResult, Ok, Err};
-ghost use Rattle.vh_session.specs.Rules.{numbers_that, is_within};
-ghost use Rattle.vh_session.specs.Seen.{texts};
+ghost use Rattle.vh_session.specs.Rules.{numbers_that};
+ghost use Rattle.vh_text.specs.Numbers.{is_within};
+ghost use Rattle.vh_text.specs.Tokens.{texts};
 
 use crate::fault::SessionKind;
 use crate::rules::number_within;

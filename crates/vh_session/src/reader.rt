@@ -4,8 +4,9 @@ ghost use Rattle.std.specs.Prelude.{◌≡◌, ◌≢◌, ◌<◌, ◌≤◌, �
 ghost use Rattle.vh_params.specs.ClassList.{classes_of};
 ghost use Rattle.vh_session.specs.Ended.{IsRead};
 ghost use Rattle.vh_session.specs.Lines.{line_of};
-ghost use Rattle.vh_session.specs.Reading.{is_skipped, is_header, are_header, is_complete, fault, draft_of, lines_from, preset_from, first_preset, session_limit};
-ghost use Rattle.vh_session.specs.Seen.{texts};
+ghost use Rattle.vh_session.specs.Reading.{is_skipped, is_header, are_header, is_complete, fault, draft_of, lines_from, preset_from, first_preset};
+ghost use Rattle.vh_session.specs.Limits.{session_limit};
+ghost use Rattle.vh_text.specs.Tokens.{texts};
 ghost use Rattle.vh_session.specs.Steps.{IsLineRead, AreLinesRead, IsDraftRead};
 ghost use Rattle.vh_session.specs.Sound.{IsSound};
 ghost use Rattle.vh_session.specs.View.{draft_in};
@@ -14,12 +15,12 @@ ghost use Rattle.vh_num.specs.declared.refusal.Refusal.TheVariants.{Fault};
 
 use crate::draft::Draft;
 use crate::fault::{SessionFault, SessionKind};
+use crate::limits::SESSION_LIMIT;
 use crate::session::Session;
-use crate::words::words;
 use std::alloc::{AllocError, Global};
 use vh_num::Refusal;
 use vh_params::Classes;
-use vh_text::{Lines, first_word};
+use vh_text::{Lines, first_word, words};
 
 /// Whether a line has nothing but spaces, or a comment.
 fn is_skipped(text: &[u8]) -> bool
@@ -56,10 +57,7 @@ impl Draft {
             return Err(Refusal::Fault(SessionKind::UnknownWord));
         };
         match self.line_of_word(classes, first, rest) {
-            Ok(entry) => match self.add(alloc, line, entry) {
-                Ok(()) => Ok(()),
-                Err(AllocError) => Err(Refusal::Memory),
-            },
+            Ok(entry) => Ok(self.add(alloc, line, entry)?),
             Err(kind) => Err(Refusal::Fault(kind)),
         }
     }
@@ -122,9 +120,6 @@ fn is_header(alloc: Global, text: &[u8]) -> Result<bool, AllocError>
     }
 }
 
-/// The most bytes of a session's text.
-pub const SESSION_LIMIT: u64 = 33_554_432;
-
 /// A fault of a line.
 fn fault(line: u32, kind: SessionKind) -> Refusal<SessionFault>
     ensures { result ≡ Fault (fault line kind) }
@@ -160,10 +155,8 @@ fn read_draft(
     let Some(first) = lines.next() else {
         return Err(fault(1, SessionKind::BadHeader));
     };
-    match is_header(alloc, first) {
-        Ok(true) => {}
-        Ok(false) => return Err(fault(1, SessionKind::BadHeader)),
-        Err(AllocError) => return Err(Refusal::Memory),
+    if !is_header(alloc, first)? {
+        return Err(fault(1, SessionKind::BadHeader));
     }
     let mut draft = Draft::new(alloc);
     let last = read_lines(&mut draft, alloc, classes, lines)?;
@@ -186,10 +179,7 @@ pub fn read(
 {
     let draft = read_draft(alloc, bytes, classes)?;
     draft.check_cycles(alloc)?;
-    match draft.finish(alloc) {
-        Ok(session) => Ok(session),
-        Err(AllocError) => Err(Refusal::Memory),
-    }
+    Ok(draft.finish(alloc)?)
 }
 
 /// The line of a text's first preset, from 1: the first line whose first word is `preset`.

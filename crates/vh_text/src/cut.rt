@@ -25,8 +25,5 @@ pub fn words<'a>(alloc: Global, line: &'a [u8]) -> Result<Vec<&'a [u8]>, Refusal
     ensures { IsSplit line.now result }
 {
     let tokens = tokens(alloc, line)?;
-    match slices(alloc, line, &tokens) {
-        Ok(words) => Ok(words),
-        Err(AllocError) => Err(Refusal::Memory),
-    }
+    Ok(slices(alloc, line, &tokens)?)
 }

@@ -13,6 +13,3 @@ pub use decimal::number;
 pub use lines::Lines;
 pub use token::{BadByte, Token, first_word, tokens};
 pub use writer::Writer;
-
-#[cfg(test)]
-mod tests;

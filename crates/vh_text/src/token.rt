@@ -29,10 +29,7 @@ pub fn tokens(alloc: Global, line: &[u8]) -> Result<Vec<Token>, Refusal<BadByte>
     if let Some(fault) = bad_byte(line) {
         return Err(Refusal::Fault(fault));
     }
-    match words(alloc, line) {
-        Ok(tokens) => Ok(tokens),
-        Err(AllocError) => Err(Refusal::Memory),
-    }
+    Ok(words(alloc, line)?)
 }
 
 /// The first word of a line, empty where there is none.

@@ -10,6 +10,3 @@ mod text;
 pub use frames::read_frames;
 pub use head::{Head, HeadRefused, WavFault, read_head};
 pub use text::{frame_bytes, head_bytes};
-
-#[cfg(test)]
-mod tests;

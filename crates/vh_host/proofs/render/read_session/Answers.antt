@@ -2,7 +2,7 @@ use Rattle.std.proofs.Common.{◌≡◌, ◌<◌, length, take, drop, Some, ap, 
 use Rattle.std.proofs.lemmas.Bool.{false≢true}
 use Rattle.std.proofs.lemmas.List.{take_at, take_all}
 use Rattle.vh_files.specs.Store.{told}
-use Rattle.vh_session.specs.Reading.{session_limit}
+use Rattle.vh_session.specs.Limits.{session_limit}
 use Rattle.vh_host.proofs.Output.{read_as, too_long}
 use Rattle.vh_host.proofs.render.read_session.Goals as goal
 

@@ -1,7 +1,7 @@
 use Rattle.std.proofs.Common.{◌≡◌, true, false, ltb, length, refl}
 use Rattle.std.proofs.lemmas.Bool.{le-ltb}
 use Rattle.std.specs.Str.{bytes_eq}
-use Rattle.vh_session.specs.Reading.{session_limit}
+use Rattle.vh_session.specs.Limits.{session_limit}
 use Rattle.vh_host.specs.Lines.{line_at}
 use Rattle.vh_host.specs.SessionForm.{session_in, header, ended}
 use Rattle.vh_host.proofs.session.parse.Goals as goal

@@ -1,8 +1,9 @@
 use Rattle.std.proofs.Common.{rules, ◌≡◌, ◌∙◌, ◌<◌, [], take, length, get_or, sym, subst, ap, Ok, Err, arith}
 use Rattle.std.specs.Result.{MatchResult}
 use Rattle.std.proofs.lemmas.List.{length-set}
-use Rattle.vh_session.specs.Rules.{numbers_that, is_within, number_that}
-use Rattle.vh_session.specs.Seen.{texts}
+use Rattle.vh_session.specs.Rules.{numbers_that, number_that}
+use Rattle.vh_text.specs.Numbers.{is_within}
+use Rattle.vh_text.specs.Tokens.{texts}
 use Rattle.vh_session.proofs.Several.{one_more, first_fault, text_at, texts_long}
 use Rattle.vh_session.proofs.numbers.numbers_within.Goals as goal
 

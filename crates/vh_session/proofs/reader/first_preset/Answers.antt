@@ -2,7 +2,7 @@ use Rattle.std.proofs.Common.{rules, ◌≡◌, length, ap, sym, arith}
 use Rattle.vh_text.specs.Left.{left}
 use Rattle.vh_text.specs.Lines.{lines_of}
 use Rattle.vh_session.specs.Reading.{preset_from}
-use Rattle.vh_session.proofs.Lengths.{few_lines}
+use Rattle.vh_text.proofs.Lengths.{few_lines}
 use Rattle.vh_session.proofs.reader.first_preset.Goals as goal
 
 pub loop-text-init : goal.loop-text-init

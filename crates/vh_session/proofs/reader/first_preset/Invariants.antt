@@ -1,6 +1,7 @@
 use Rattle.std.proofs.Common.{◌≡◌, ◌+◌, ◌≤◌, length}
 use Rattle.vh_text.specs.Left.{left}
-use Rattle.vh_session.specs.Reading.{preset_from, first_preset, session_limit}
+use Rattle.vh_session.specs.Reading.{preset_from, first_preset}
+use Rattle.vh_session.specs.Limits.{session_limit}
 use Rattle.vh_session.proofs.reader.first_preset.Given as goal
 
 abbrev pub invariant-loop-text : goal.invariant-loop-text

@@ -16,11 +16,11 @@ finish-requires-clause-keeps c =
     let kept = draft_keeps known c.args.bytes.now draft is in
     session_keeps known draft kept.0 kept.1 c.in_ok-check_cycles.ensures.free
 
-pub returns-in-Ok : goal.returns-in-Ok
-returns-in-Ok c =
+pub returns : goal.returns
+returns c =
     let draft = draft_in c.in_ok-draft.draft in
     let known = classes_of c.args.classes.now in
     let is : draft_of known c.args.bytes.now ≡ Ok draft = search rules in
     let kept = draft_keeps known c.args.bytes.now draft is in
-    let same : content_of c.in-Ok.session ≡ content_in draft = search rules in
+    let same : content_of c.in_ok-finish.field-0 ≡ content_in draft = search rules in
     ((draft, is, c.in_ok-check_cycles.ensures.free, sym same), subst (λ content. StandsUnder known content) (sym same) (session_stands known draft kept.0))

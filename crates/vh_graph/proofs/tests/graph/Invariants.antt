@@ -1,6 +1,0 @@
-use Rattle.std.proofs.Common.{◌<◌, take}
-use Rattle.std.specs.Prelude.{All}
-use Rattle.vh_graph.proofs.tests.graph.Given as goal
-
-abbrev pub invariant-loop-source : goal.invariant-loop-source
-invariant-loop-source l = All (λ wire. (wire.0 < l.n) × (wire.1 < l.n)) (take l.source-index l.wires)

@@ -1,7 +1,0 @@
-use Rattle.std.proofs.Common.{◌≡◌, ◌++◌, map, drop}
-use Rattle.std.specs.Fmt.{decimal}
-use Rattle.vh_session.specs.Text.{further_text}
-use Rattle.vh_session.proofs.print.Text.last_numbers.Given as goal
-
-abbrev pub invariant-loop-n : goal.invariant-loop-n
-invariant-loop-n l = l.self.bytes.items ++ further_text (map decimal (drop l.n-index l.numbers)) ≡ l.fn.self.bytes.items ++ further_text (map decimal l.numbers)

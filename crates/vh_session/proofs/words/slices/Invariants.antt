@@ -1,7 +1,0 @@
-use Rattle.std.proofs.Common.{◌≡◌, ◌-◌, take, drop, map}
-use Rattle.vh_text.specs.declared.token.Token.{Token}
-use Rattle.vh_session.specs.Seen.{texts}
-use Rattle.vh_session.proofs.words.slices.Given as goal
-
-abbrev pub invariant-loop-token : goal.invariant-loop-token
-invariant-loop-token l = texts l.words.items ≡ map (λ (token : Token). take (token.to - token.from) (drop token.from l.text)) (take l.token-index l.tokens)
