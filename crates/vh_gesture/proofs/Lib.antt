@@ -1,0 +1,4 @@
+pub mod Gates
+pub mod Judged
+pub mod Marks
+pub mod Tracks
