@@ -1,0 +1,11 @@
+pub mod Turns
+pub mod Stops
+pub mod Scripts
+pub mod Accepting
+pub mod Keeping
+pub mod Found
+pub mod Valued
+pub mod InPlace
+pub mod Numbered
+pub mod Placed
+pub mod Commands
