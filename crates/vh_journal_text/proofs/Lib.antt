@@ -1,0 +1,11 @@
+mod Inverts
+mod Named
+mod Several
+mod Tracked
+mod Accepted
+mod Names
+mod Sizes
+mod ReadsBack
+mod Stepped
+mod Whole
+mod Faulty

@@ -1,0 +1,12 @@
+pub mod Items
+pub mod Lines
+pub mod Rules
+pub mod Reading
+pub mod Text
+pub mod Keeps
+pub mod Kinds
+pub mod View
+pub mod Standing
+pub mod Steps
+pub mod Faults
+pub mod Laws
