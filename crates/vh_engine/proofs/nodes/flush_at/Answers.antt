@@ -1,0 +1,17 @@
+use Rattle.std.proofs.Common.{◌∙◌}
+use Rattle.vh_points.specs.Model.{queues_of}
+use Rattle.vh_component.specs.States.{of_processing}
+use Rattle.vh_counted.specs.Held.{value_of_opened}
+use Rattle.vh_engine.proofs.Running.{values_sent}
+use Rattle.vh_engine.proofs.Settled.{sent_for_none}
+use Rattle.vh_engine.proofs.nodes.flush_at.Goals as goal
+
+pub process-requires-clause-points : goal.process-requires-clause-points
+process-requires-clause-points g c =
+    rw c.value_mut.ensures.value (sent_for_none (g.P.Processor.class_of (g.P.Processor.code (value_of_opened (of_processing c.args.processor.now)))) c.args.span.now c.args.node c.args.controls.now (queues_of c.send_all.new.points) c.requires.ready.3.of c.send_all.ensures.points)
+
+pub returns-clause-sent : goal.returns-clause-sent
+returns-clause-sent g c =
+    let value = value_of_opened (of_processing c.args.processor.now) in
+    let values = rw (c.value_mut.ensures.value, c.requires.ready.3.sent) at c.process.ensures.values in
+    values ∙ values_sent c.args.span.now c.args.node (g.P.Processor.class_of (g.P.Processor.code value)).params c.args.controls.now c.send_all.new.controls (queues_of c.send_all.new.points) c.points_mean_values.ensures c.requires.ready.3.of c.send_all.ensures.points c.send_all.ensures.behind

@@ -1,0 +1,16 @@
+pub mod Between
+pub mod Controls
+pub mod Sent
+pub mod Buses
+pub mod Queued
+pub mod Nodes
+pub mod Staged
+pub mod Told
+pub mod Runs
+pub mod Plans
+pub mod Seen
+pub mod Kept
+pub mod Engine
+pub mod Parts
+pub mod Fresh
+pub mod Blocks
