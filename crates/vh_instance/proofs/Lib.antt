@@ -1,0 +1,11 @@
+pub mod Counting
+pub mod Fronts
+pub mod Ends
+pub mod Pushes
+pub mod Within
+pub mod Classes
+pub mod Places
+pub mod Parted
+pub mod Settings
+pub mod Grown
+pub mod Making

@@ -1,0 +1,4 @@
+pub mod Firsts
+pub mod Raised
+pub mod Seats
+pub mod Band

@@ -1,0 +1,15 @@
+//! The instances of a session: both halves of every plug-in are made, counted and ended.
+#![tactic(auto)]
+
+mod band;
+mod component;
+mod controller;
+mod end;
+mod firsts;
+mod instances;
+pub mod laws;
+mod references;
+
+pub use band::Band;
+pub use end::tear_down;
+pub use instances::make;
