@@ -156,6 +156,7 @@ module _ {P : Type 0} (class_of : ℕ → Class) (code : P → ℕ) (values : P 
         space = is.space;
         given = subst (λ (n : ℕ). 64 ≤ n) (sym many) is.given;
         shown = is.shown ∙ sym (count_taken parts.session.lanes.items entries (boards_of work.boards.items) (boards_of boards.items) taken.long (λ node lt. (taken.each node lt).long));
+        within_one = is.within_one;
         replies = few;
         nodes = λ node c p s d lt.
             let before : node < length olds = omega (arith, count, lt) in

@@ -1,10 +1,11 @@
 -- Parameters at their first values.
-use Rattle.std.proofs.Common.{◌≡◌, ◌∙◌, ℕ, zero, suc, ◌+◌, ◌<◌, ◌≤◌, Bool, true, false, cond, List, [], ◌∷◌, length, map, take, drop, Option, Some, None, refl, sym, ap, arith}
-use Rattle.std.specs.Prelude.{slice_index_or, sum_by, ◌==◌, ◌&&◌}
+use Rattle.std.proofs.Common.{◌≡◌, ◌∙◌, ℕ, zero, suc, ◌+◌, ◌<◌, ◌≤◌, ◌^◌, Bool, true, false, cond, List, [], ◌∷◌, length, map, take, drop, Option, Some, None, refl, sym, ap, subst, arith}
+use Rattle.std.specs.Prelude.{All, slice_index_or, sum_by, ◌==◌, ◌&&◌}
 use Rattle.std.specs.List.{slice_get, find}
 use Rattle.std.specs.Option.{option_map}
 use Rattle.std.proofs.lemmas.Bool.{eq-eqb, ne_eqb}
-use Rattle.std.proofs.lemmas.List.{drop-drop}
+use Rattle.std.proofs.lemmas.List.{drop-drop, length-drop, take-append-drop}
+use Rattle.std.proofs.lemmas.List.Elements.{All-append}
 use Rattle.std.proofs.lemmas.List.Sums.{sum_by-cons}
 use Rattle.vh_lane.specs.declared.lane.Lane.{Lane}
 use Rattle.vh_lane.specs.Kept.{value_of}
@@ -41,6 +42,21 @@ firsts_of_node class_of (code ∷ codes) (n ∷ nodes) values (suc node) have lo
     firsts_of_node class_of codes nodes (drop (length (class_of code).params) values) node (λ k within. have (suc k) (omega (arith, within))) (omega (arith, long)) (omega (arith, lt))
     ∙ ap (λ (l : List ℕ). take (length (node_at nodes node).params) l)
     (drop-drop (begin_of nodes node) (length (class_of code).params) values ∙ ap (λ (k : ℕ). drop k values) places)
+
+-- values that are at most 1.0 node by node are so all
+pub within_by_node : (class_of : ℕ → Class) (codes : List ℕ) (nodes : List Node) (values : List ℕ) → HaveParams class_of codes nodes → length codes ≡ length nodes → length values ≡ sum_by (λ node. length node.params) nodes
+    → ((node : ℕ) → node < length codes → All (λ value. value ≤ 2 ^ 24) (slice_index_or (by_node class_of codes values) node [])) → All (λ value. value ≤ 2 ^ 24) values
+within_by_node class_of [] [] values have long flat within = λ k d lt. absurd (omega (arith, flat, lt))
+within_by_node class_of [] (n ∷ nodes) values have long flat within = absurd (omega (arith, long))
+within_by_node class_of (code ∷ codes) [] values have long flat within = absurd (omega (arith, long))
+within_by_node class_of (code ∷ codes) (n ∷ nodes) values have long flat within =
+    let count = length (class_of code).params in
+    let here : count ≡ length n.params = have 0 (omega arith) in
+    let sums = sum_by-cons (λ (x : Node). length x.params) n nodes in
+    let rest : length (drop count values) ≡ sum_by (λ node. length node.params) nodes = let dropped = length-drop count values in omega (arith, flat, here, sums, dropped) in
+    subst (λ (l : List ℕ). All (λ value. value ≤ 2 ^ 24) l) (take-append-drop count values)
+    (All-append (λ (value : ℕ). value ≤ 2 ^ 24) (take count values) (drop count values) (within 0 (omega arith))
+    (within_by_node class_of codes nodes (drop count values) (λ k lt. have (suc k) (omega (arith, lt))) (omega (arith, long)) rest (λ node lt. within (suc node) (omega (arith, lt)))))
 
 rest_of_first : (lanes : List (ℕ × ℕ × Lane)) (node : ℕ) (param : ParamInfo) (params : List ParamInfo) (first : ℕ) (firsts : List ℕ) (control : Control) (board : List Control)
     → IsFirstBoard lanes node (param ∷ params) (first ∷ firsts) (control ∷ board) → IsFirstBoard lanes node params firsts board

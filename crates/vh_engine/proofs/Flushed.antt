@@ -223,6 +223,7 @@ module _ {P : Type 0} (class_of : ℕ → Class) (code : P → ℕ) (values : P 
             shown = ready.shown
                 ∙ sym (sum_same (boards_of work.boards.items) (boards_of boards) boards_long (λ node lt. (behind node (omega (arith, lt, counted))).long))
                 ∙ ap (λ (l : List (Vec Control Global)). sum_by (λ (board : List Control). length board) (boards_of l)) (sym hold);
+            within_one = ready.within_one;
             replies = ready.replies;
             nodes = λ node c p s d lt.
                 let within : node < length parts.processors.items = let items = ap (λ (l : List (Processing P)). length l) are in omega (arith, lt, items, count) in

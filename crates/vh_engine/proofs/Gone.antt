@@ -247,6 +247,7 @@ module _ {P : Type 0} (class_of : ℕ → Class) (code : P → ℕ) (state : P �
             shown =
                 ready.shown
                 ∙ sym (sums_same (boards_of work.boards.items) (boards_of boards.items) new_boards_long (λ k lt. (behind_of k (let seats = ready.seats in omega (arith, lt, seats, old_boards_long))).long));
+            within_one = ready.within_one;
             replies = ready.replies;
             nodes = node_stays;
           }

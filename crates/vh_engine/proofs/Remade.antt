@@ -1,5 +1,6 @@
 -- An engine with new values to be seen, or with other samples in its room.
-use Rattle.std.proofs.Common.{◌≡◌, ◌∙◌, ℕ, ◌≤◌, ◌*◌, List, length, ℤ, Vec, sym, subst}
+use Rattle.std.proofs.Common.{◌≡◌, ◌∙◌, ℕ, ◌≤◌, ◌*◌, ◌^◌, List, length, ℤ, Vec, sym, subst}
+use Rattle.std.specs.Prelude.{All}
 use Rattle.std.specs.declared.alloc.Global.{Global}
 use Rattle.vh_component.specs.declared.setup.Phase.{Phase}
 use Rattle.vh_component.specs.declared.setup.Setup.{Setup}
@@ -12,9 +13,9 @@ use Rattle.vh_engine.specs.Runs.{IsSpacious}
 
 module _ {P : Type 0} (class_of : ℕ → Class) (code : P → ℕ) (values : P → List ℕ) (phase : P → Phase) (setup : P → Setup) (parts : Parts P) (work : Work) (room : ℕ)
     (ready : IsReadyFor class_of code values phase setup parts work room) where
-  -- it stays ready with as many values
-  pub seen_anew : (anew : Vec ℕ Global) → length anew.items ≡ length work.values.items → IsReadyFor class_of code values phase setup parts (record work { values = anew }) room
-  seen_anew anew long = record {
+  -- it stays ready with as many values, none above 1.0
+  pub seen_anew : (anew : Vec ℕ Global) → length anew.items ≡ length work.values.items → All (λ value. value ≤ 2 ^ 24) anew.items → IsReadyFor class_of code values phase setup parts (record work { values = anew }) room
+  seen_anew anew long within = record {
     stage = ready.stage;
     graph = ready.graph;
     few = ready.few;
@@ -31,6 +32,7 @@ module _ {P : Type 0} (class_of : ℕ → Class) (code : P → ℕ) (values : P 
     space = ready.space;
     given = ready.given;
     shown = long ∙ ready.shown;
+    within_one = within;
     replies = ready.replies;
     nodes = ready.nodes;
   }
@@ -54,6 +56,7 @@ module _ {P : Type 0} (class_of : ℕ → Class) (code : P → ℕ) (values : P 
     space = spacious;
     given = ready.given;
     shown = ready.shown;
+    within_one = ready.within_one;
     replies = ready.replies;
     nodes = ready.nodes;
   }

@@ -56,6 +56,7 @@ module _ {P : Type 0} (class_of : ℕ → Class) (code : P → ℕ) (values : P 
     space = is.space;
     given = is.given;
     shown = is.shown;
+    within_one = is.within_one;
     replies = is.replies;
     nodes = λ node c p s d lt. node_with_less _ _ _ _ _ _ _ _ more less _ _ le (is.nodes node c p s d lt);
   }
@@ -79,6 +80,7 @@ module _ {P : Type 0} (class_of : ℕ → Class) (code : P → ℕ) (values : P 
     space = is.space;
     given = is.given;
     shown = is.shown;
+    within_one = is.within_one;
     replies = is.replies;
     nodes = is.nodes;
   }
@@ -102,6 +104,7 @@ module _ {P : Type 0} (class_of : ℕ → Class) (code : P → ℕ) (values : P 
     space = is.space;
     given = is.given;
     shown = is.shown;
+    within_one = is.within_one;
     replies = is.replies;
     nodes = is.nodes;
   }

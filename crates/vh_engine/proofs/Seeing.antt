@@ -1,6 +1,8 @@
 -- What is seen of the parameters, node by node.
-use Rattle.std.proofs.Common.{◌≡◌, ◌∙◌, ℕ, ◌+◌, ◌<◌, cond, List, [], ◌∷◌, ◌++◌, length, get_or, set, take, sym, ap, arith}
+use Rattle.std.proofs.Common.{◌≡◌, ◌∙◌, ℕ, ◌+◌, ◌<◌, ◌≤◌, ◌^◌, cond, List, [], ◌∷◌, ◌++◌, length, get_or, set, take, sym, ap, subst, arith}
+use Rattle.std.specs.Prelude.{All}
 use Rattle.std.proofs.lemmas.List.{take_more, take_more_set, map_more, length-take, length-set, append_assoc, append-nil}
+use Rattle.std.proofs.lemmas.List.Elements.{All-push}
 use Rattle.vh_plugin.specs.Class.{Class, State}
 use Rattle.vh_engine.specs.declared.control.Control.{Control}
 use Rattle.vh_engine.specs.Seen.{seen_of_node, seen_of_all}
@@ -27,6 +29,11 @@ seen_more class_of codes states boards i long wide lt =
     ∙ ap (λ (l : List (List Control)). seen_of_all class_of (take i codes ++ get_or codes i 0 ∷ []) (take i states ++ get_or states i [] ∷ []) l) (take_more boards i [] (omega (arith, wide, lt)))
     ∙ seen_push class_of (take i codes) (take i states) (take i boards) (get_or codes i 0) (get_or states i []) (board_at boards i)
     (omega (arith, length-take i states, length-take i codes, long)) (omega (arith, length-take i boards, length-take i codes, wide))
+
+-- and its value is at most 1.0
+pub within_next : (values : List ℕ) (place value : ℕ) → place < length values → All (λ v. v ≤ 2 ^ 24) (take place values) → value ≤ 2 ^ 24 → All (λ v. v ≤ 2 ^ 24) (take (place + 1) (set values place value))
+within_next values place value lt before within =
+    subst (λ (l : List ℕ). All (λ v. v ≤ 2 ^ 24) l) (sym (take_more_set values place value lt)) (All-push (λ (v : ℕ). v ≤ 2 ^ 24) (take place values) value before within)
 
 -- one parameter more
 pub seen_next : (class : Class) (state : State) (board : List Control) (values : List ℕ) (place : ℕ) (d : Control) (value : ℕ) → place < length board → length values ≡ length board → take place values ≡ seen_of_node class state (take place board)

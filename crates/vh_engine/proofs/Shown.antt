@@ -1,5 +1,5 @@
 -- What is seen of all parameters, from what an engine keeps.
-use Rattle.std.proofs.Common.{◌≡◌, ◌∙◌, ℕ, ◌<◌, Bool, true, false, List, [], length, map, refl, sym, ap, arith}
+use Rattle.std.proofs.Common.{◌≡◌, ◌∙◌, ℕ, ◌<◌, ◌≤◌, ◌^◌, Bool, true, false, List, [], length, map, refl, sym, ap, arith}
 use Rattle.std.specs.Prelude.{All, slice_index_or, ◌==◌, ◌&&◌}
 use Rattle.std.proofs.lemmas.Bool.{and_from, eq-eqb}
 use Rattle.std.proofs.lemmas.List.{get_or-map, length-map}
@@ -58,6 +58,14 @@ module _ {P : Type 0} (class_of : ℕ → Class) (code : P → ℕ) (values : P 
 
   pub are_shown : AreShown class_of (of_all code parts.processors.items) (boards_of work.boards.items)
   are_shown node d lt = shown_of (class_of (slice_index_or (of_all code parts.processors.items) node d)).params (board_at (boards_of work.boards.items) node) (of_each node d lt)
+
+  -- processors have values of at most 1.0
+  pub are_within : (node : ℕ) → node < length (boards_of work.boards.items) → All (λ control. control.sent ≤ 2 ^ 24) (board_at (boards_of work.boards.items) node)
+  are_within node lt =
+      let long = ready.stage.boards_are.long in
+      let codes = length-map parts.processors.items (λ processor. code (value_of_opened (of_processing processor))) in
+      let each = (node_here class_of code values phase setup parts work room ready node 0 AtProcessing (omega (arith, lt, long, codes))).2.each in
+      λ k d within. (each k d within).sent
 
   -- What is seen, where processors have their values at a sample, is what is seen of what is kept.
   pub seen_of_kept : (state : P → State) (calls : P → ℕ) (s : ℕ) → AreCurrent parts.session.lanes.items s (boards_of work.boards.items)

@@ -51,7 +51,7 @@ use Rattle.vh_engine.specs.Plans.{AreSeats, IsFirst, IsFirstBoard, AreFirstBoard
 use Rattle.vh_engine.specs.Runs.{AreAfter, IsSeat, IsSpacious}
 use Rattle.vh_engine.specs.Staged.{of_all, boards_of, board_at, answer_of, IsBoard, AreBoards}
 use Rattle.vh_engine.specs.Told.{IsStage}
-use Rattle.vh_engine.proofs.Firsts.{HaveParams, firsts_of_node, untouched_board, sent_first, of_first}
+use Rattle.vh_engine.proofs.Firsts.{HaveParams, firsts_of_node, within_by_node, untouched_board, sent_first, of_first}
 use Rattle.vh_engine.proofs.Laned.{some_of, lane_placed, line_first, still_first}
 use Rattle.vh_engine.proofs.Planned.{begin_most}
 
@@ -322,6 +322,20 @@ module _ {P : Type 0} (class_of : ℕ → Class) (code : P → ℕ) (state : P �
         ∙ sym (same_sums (λ (board : List Control). length board) (λ (node : Node). length node.params) (boards_of work.boards.items) nodes (mapped ∙ boards) (λ k d e lt.
         at_board (λ (board : List Control). length board ≡ length (slice_index_or nodes k e).params) work.boards.items k d (omega (arith, lt, mapped)) (λ v. (fresh.boards.each k e v (omega (arith, lt, mapped, boards))).long)))
 
+    -- and none of them is above 1.0
+    within_first : ((x : P) → AreValues (class_of (code x)).params (values x)) → All (λ value. value ≤ 2 ^ 24) work.values.items
+    within_first valued =
+        let nodes = nodes_of parts.session.nodes in
+        let long = are.long in
+        let codes = meant_at code parts.processors.items in
+        let phases = meant_at phase parts.processors.items in
+        let setups = meant_at setup parts.processors.items in
+        subst (λ (l : List ℕ). All (λ value. value ≤ 2 ^ 24) l) (sym fresh.values)
+        (within_by_node class_of (of_all code parts.processors.items) nodes parts.first.items have_params (codes ∙ long) are.flat (λ node within.
+        let lt : node < length nodes = omega (arith, within, long, codes) in
+        let placed = placed_at node 0 (some_of (of_all phase parts.processors.items) node (omega (arith, lt, long, phases))) (some_of (of_all setup parts.processors.items) node (omega (arith, lt, long, setups))) lt in
+        subst (λ (l : List ℕ). All (λ value. value ≤ 2 ^ 24) l) placed.first (valued_at class_of code values valued parts.processors.items node 0 (omega (arith, lt, long))).within))
+
     graph_first : OrderExactlyWithoutCycle → IsGraph (scene_by class_of code parts)
     graph_first law =
         let wires = parts.session.wires.items in
@@ -374,6 +388,7 @@ module _ {P : Type 0} (class_of : ℕ → Class) (code : P → ℕ) (state : P �
           space = subst (λ (n : ℕ). IsSpacious work.space (session.channels * n) 64 n) (sym max_is) fresh.space;
           given = omega (arith, given);
           shown = seen_first;
+          within_one = within_first valued;
           replies = omega (arith, replies);
           nodes = λ node c p s d lt.
               subst (λ (n : ℕ). IsNode (class_of (slice_index_or (of_all code parts.processors.items) node c)) (slice_index_or (of_all phase parts.processors.items) node p) (slice_index_or (of_all setup parts.processors.items) node s)

@@ -90,6 +90,7 @@ pub record IsReadyFor {P : Type 0} (class_of : ℕ → Class) (code : P → ℕ)
   pub space : IsSpacious work.space (parts.session.channels * work.max) 64 work.max
   pub given : 64 ≤ length work.given.items
   pub shown : length work.values.items ≡ sum_by (λ board. length board) (boards_of work.boards.items)
+  pub within_one : All (λ value. value ≤ 2 ^ 24) work.values.items
   pub replies : vec_len work.replies ≤ vec_capacity work.replies
   pub nodes : AreNodes class_of code values phase setup parts work room
 

@@ -2,10 +2,11 @@
 //!
 //! A call of `laws` does nothing: the proof uses what it ensures.
 
-ghost use Rattle.std.specs.Prelude.{◌≡◌, ◌<◌, ◌≤◌, ◌+◌, ◌*◌, ◌^◌, ◌++◌, ℕ, true, false, List, [], length, map, IfOk, IfErr};
+ghost use Rattle.std.specs.Prelude.{◌≡◌, ◌<◌, ◌≤◌, ◌+◌, ◌*◌, ◌^◌, ◌++◌, ℕ, true, false, List, [], length, map, All, IfOk, IfErr};
 ghost use Rattle.vh_num.specs.Frames.{Frame};
 ghost use Rattle.vh_plugin.specs.Counts.{raised};
 ghost use Rattle.vh_journal.specs.declared.entry.Entry.{Entry as Stored};
+ghost use Rattle.vh_session.specs.Names.{content_of};
 ghost use Rattle.vh_meaning.specs.Rendering.{seen_before, last_values, answers, stops};
 ghost use Rattle.vh_engine.specs.Kept.{Kept, scene_in, Stands, MayCarry, AreInput, AreOut, IsSameEngine};
 ghost use Rattle.vh_engine.specs.Parts.{AreParts, IsFresh, IsGivenBack};
@@ -20,6 +21,7 @@ use std::marker::Model;
 use vh_journal::Entry;
 use vh_params::Reply;
 use vh_plugin::Processor;
+use vh_session::Session;
 
 /// A rendering on its way: what it has come to before the next sample.
 ///
@@ -109,11 +111,26 @@ impl<P: Processor + Drop> Engine<P> {
         finish_with(&mut self.parts, &mut self.work, entries);
     }
 
+    /// The session that it renders.
+    pub fn session(&self) -> &Session
+        ensures { content_of result.now ≡ self.now.session }
+    {
+        &self.parts.session
+    }
+
+    /// The most frames of a block.
+    pub fn max(&self) -> usize
+        ensures { result ≡ self.now.max }
+    {
+        self.work.max
+    }
+
     /// The normalised values of all parameters, node by node and within each by rising id: the first values
     /// before any sample, then those of the last sample, and behind the flush the final ones. A read-only
-    /// parameter has what its processor shows.
+    /// parameter has what its processor shows. None is above 1.0.
     pub fn values(&self) -> &[u32]
-        ensures { result.now ≡ self.now.values }
+        ensures values { result.now ≡ self.now.values }
+        ensures within { All (λ value. value ≤ 2 ^ 24) result.now }
     {
         &self.work.values
     }

@@ -1,8 +1,9 @@
-use Rattle.std.proofs.Common.{◌≡◌, ◌∙◌, ℕ, ◌+◌, ◌-◌, ◌<◌, ◌≤◌, cond, true, List, [], ◌++◌, length, get_or, take, drop, sym, ap, subst, arith, length-append, length-drop, Vec}
+use Rattle.std.proofs.Common.{◌≡◌, ◌∙◌, ℕ, ◌+◌, ◌-◌, ◌<◌, ◌≤◌, ◌^◌, cond, true, List, [], ◌++◌, length, get_or, take, drop, sym, ap, subst, arith, length-append, length-drop, Vec}
 use Rattle.std.specs.Prelude.{All}
 use Rattle.std.specs.declared.alloc.Global.{Global}
 use borrow.Rule.Slice.PartMut.{put_mid}
 use Rattle.std.proofs.lemmas.List.{get_or-map, length-map, length-take-le}
+use Rattle.std.proofs.lemmas.List.Elements.{All-append}
 use Rattle.std.proofs.lemmas.List.Sums.{sum_by_more, sum_by_more_le}
 use Rattle.std.proofs.lemmas.Slice.{take-put_mid}
 use Rattle.vh_component.specs.declared.states.Processing.{Processing}
@@ -43,6 +44,13 @@ slice_bounds-see_node-end g c =
     let bound : c.loop-node.at + c.len.result ≤ length c.loop-node.values = omega (arith, is.0, is.1, long, sum_by_more_le (λ (l : List Control). length l) boards node [] among) in
     bound
 
+pub see_node-requires-clause-sent : goal.see_node-requires-clause-sent
+see_node-requires-clause-sent g c =
+    let node = c.loop-node.node in
+    let inside : node < length c.args.boards.now = omega (arith, c.loop-node-test.true, c.loop-node.auto.node-end, c.requires.boards) in
+    let here = board_here c.args.boards.now node c.index-boards-node.result c.deref.result.now inside c.index-boards-node.is c.deref.ensures.value in
+    subst (λ (l : List Control). All (λ (control : Control). control.sent ≤ 2 ^ 24) l) (sym here) (c.requires.sent node inside)
+
 pub see_node-requires-clause-shown : goal.see_node-requires-clause-shown
 see_node-requires-clause-shown g c =
     let node = c.loop-node.node in
@@ -76,7 +84,7 @@ loop-node-preserved g c =
     let bound : at + c.len.result ≤ length values = omega (arith, is.0, is.1, long, sum_by_more_le (λ (l : List Control). length l) boards node [] among) in
     let old = c.index-processors-node.result in
     let one : seen ≡ seen_of_node (class_of (get_or codes node 0)) (get_or states node []) (board_at boards node) =
-    c.see_node.ensures
+    c.see_node.ensures.seen
     ∙ ap (λ (n : ℕ). seen_of_node (class_of n) (g.P.Processor.state (value_of_opened (of_processing old))) c.deref.result.now) (meant_here g.P.Processor.code processors node old 0 lt c.index-processors-node.is)
     ∙ ap (λ (state : State). seen_of_node (class_of (get_or codes node 0)) state c.deref.result.now) (meant_here g.P.Processor.state processors node old [] lt c.index-processors-node.is)
     ∙ ap (seen_of_node (class_of (get_or codes node 0)) (get_or states node [])) here in
@@ -89,4 +97,6 @@ loop-node-preserved g c =
           ∙ ap (λ (l : List ℕ). l ++ seen) is.2
           ∙ ap (λ (l : List ℕ). seen_of_all class_of (take node codes) (take node states) (take node boards) ++ l) one
           ∙ sym (seen_more class_of codes states boards node (omega (arith, long_of_all g.P.Processor.state processors, long_of_all g.P.Processor.code processors)) (omega (arith, wide, c.requires.boards, long_of_all g.P.Processor.code processors)) (omega (arith, lt, long_of_all g.P.Processor.code processors))),
+      subst (λ (l : List ℕ). All (λ value. value ≤ 2 ^ 24) l) (sym (take-put_mid at (at + c.len.result - at) values seen (at + c.len.result) (omega (arith, many)) (omega (arith, bound))))
+          (All-append (λ (value : ℕ). value ≤ 2 ^ 24) (take at values) seen is.3 c.see_node.ensures.within),
     )

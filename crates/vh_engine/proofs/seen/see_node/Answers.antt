@@ -2,7 +2,7 @@ use Rattle.std.proofs.Common.{◌∙◌, Bool, false, cond, get_or, None, sym, a
 use Rattle.vh_component.specs.States.{of_processing}
 use Rattle.vh_counted.specs.Held.{value_of_opened}
 use Rattle.vh_engine.specs.declared.control.Control.{Control}
-use Rattle.vh_engine.proofs.Seeing.{seen_next}
+use Rattle.vh_engine.proofs.Seeing.{seen_next, within_next}
 use Rattle.vh_engine.proofs.seen.see_node.Goals.{then-control, else-control}
 use Rattle.vh_engine.proofs.seen.see_node.Goals as goal
 
@@ -21,9 +21,15 @@ loop-place-preserved g c =
     elim c.if-control.branch [
       | then-control w ↦
           let said = rw w.value.ensures at w.shown.ensures.value in
-          seen_next class state board c.loop-place.values place none c.if-control.values (omega (arith, c.loop-place-test.true, c.loop-place.auto.place-end)) is.0 is.1
-          (w.values-is ∙ said ∙ sym (ap (λ (b : Bool). cond b (class.shown state control.id) control.sent) w.if-control.true))
+          let next = seen_next class state board c.loop-place.values place none c.if-control.values (omega (arith, c.loop-place-test.true, c.loop-place.auto.place-end)) is.0 is.1
+          (w.values-is ∙ said ∙ sym (ap (λ (b : Bool). cond b (class.shown state control.id) control.sent) w.if-control.true)) in
+          (next.0, next.1, within_next c.loop-place.values place c.if-control.values (omega (arith, c.loop-place-test.true, c.loop-place.auto.place-end, is.0)) is.2 (omega (arith, w.values-is, w.shown.ensures.within)))
       | else-control w ↦
-          seen_next class state board c.loop-place.values place none c.if-control.values (omega (arith, c.loop-place-test.true, c.loop-place.auto.place-end)) is.0 is.1
-          (w.values-is ∙ sym (ap (λ (b : Bool). cond b (class.shown state control.id) control.sent) w.if-control.false))
+          let next = seen_next class state board c.loop-place.values place none c.if-control.values (omega (arith, c.loop-place-test.true, c.loop-place.auto.place-end)) is.0 is.1
+          (w.values-is ∙ sym (ap (λ (b : Bool). cond b (class.shown state control.id) control.sent) w.if-control.false)) in (
+            next.0,
+            next.1,
+            within_next c.loop-place.values place c.if-control.values (omega (arith, c.loop-place-test.true, c.loop-place.auto.place-end, is.0)) is.2
+                (let least = c.requires.sent place none (omega (arith, c.loop-place-test.true, c.loop-place.auto.place-end)) in omega (arith, w.values-is, least)),
+          )
     ]
