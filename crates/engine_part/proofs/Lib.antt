@@ -1,0 +1,3 @@
+mod Banded
+mod Carrying
+mod Parted
