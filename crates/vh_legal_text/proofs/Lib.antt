@@ -1,0 +1,4 @@
+pub mod Scripted
+pub mod Opened
+pub mod Ruled
+pub mod Named
