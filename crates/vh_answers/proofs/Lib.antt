@@ -1,0 +1,3 @@
+mod Told
+mod Reports
+pub mod Stages

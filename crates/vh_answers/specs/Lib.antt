@@ -1,0 +1,5 @@
+pub mod Outside
+pub mod Told
+pub mod Refusals
+pub mod Report
+pub mod Steps
