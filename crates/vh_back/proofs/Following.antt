@@ -1,6 +1,6 @@
 -- How values follow.
-use Rattle.std.proofs.Common.{◌≡◌, ◌<◌, ◌≤◌, ◌+◌, ◌^◌, ℕ, zero, suc, Bool, true, false, ◌||◌, ◌&&◌, ◌==◌, nat_le, List, [], ◌∷◌, ◌++◌, length, map, set, get_or, Option, Some, None, unwrap_or, if◌then◌else◌, refl, sym, ap, subst, ◌∙◌, inl, inr, arith}
-use Rattle.std.specs.List.{list_any, AllByRecursion}
+use Rattle.std.proofs.Common.{◌≡◌, ◌<◌, ◌≤◌, ◌^◌, ℕ, zero, suc, Bool, true, false, ◌&&◌, ◌==◌, nat_le, List, [], ◌∷◌, ◌++◌, length, set, get_or, Option, Some, None, unwrap_or, if◌then◌else◌, refl, sym, ap, subst, ◌∙◌, inl, inr, arith}
+use Rattle.std.specs.List.{AllByRecursion}
 use Rattle.std.specs.Option.{option_or}
 use Rattle.std.proofs.lemmas.Bool.{or_parts, and_left, and_right, eq-eqb, eqb-true, ne_eqb, le-leb, cases_eq}
 use Rattle.std.proofs.lemmas.List.{length-map, get_or-set_same, get_or-set_other}
@@ -9,9 +9,8 @@ use Rattle.vh_plugin.specs.Controls.{has_id, with_value, normalized_to}
 use Rattle.vh_counted.specs.declared.object.Opened.{Opened}
 use Rattle.vh_counted.specs.Held.{value_of_opened}
 use Rattle.vh_back.specs.declared.item.Parameter.{Parameter}
-use Rattle.vh_back.specs.declared.item.Item.{Item}
-use Rattle.vh_back.specs.declared.item.Item.TheVariants.{Echo, Reply}
-use Rattle.vh_back.specs.Items.{parameter, is_same, value_for}
+use Rattle.vh_back.specs.declared.item.Item.TheVariants.{Echo}
+use Rattle.vh_back.specs.Items.{parameter, value_for}
 use Rattle.vh_back.specs.Follows.{followed, parameters_at, of_openers, AreFollowed}
 
 unwrap_both : (g f : Option ℕ) (value : ℕ) → unwrap_or g (unwrap_or f value) ≡ unwrap_or (option_or g f) value
@@ -33,6 +32,12 @@ none_followed f [] [] none long = refl
 none_followed f [] (value ∷ values) none long = absurd (omega arith)
 none_followed f (one ∷ ones) [] none long = refl
 none_followed f (one ∷ ones) (value ∷ values) none long = λ i. unwrap_or (none.0 i) value ∷ none_followed f ones values none.1 (omega arith) i
+
+pub parts_followed : (f : Parameter → Option ℕ) (ones others : List Parameter) (values more : List ℕ) → length values ≡ length ones → followed f (ones ++ others) (values ++ more) ≡ followed f ones values ++ followed f others more
+parts_followed f [] others [] more long = refl
+parts_followed f [] others (value ∷ values) more long = absurd (omega arith)
+parts_followed f (one ∷ ones) others [] more long = absurd (omega arith)
+parts_followed f (one ∷ ones) others (value ∷ values) more long = ap (λ (rest : List ℕ). unwrap_or (f one) value ∷ rest) (parts_followed f ones others values more (omega arith))
 
 abbrev pub AreRising : List Param → Type 0
 AreRising params = (i j : ℕ) (d : Param) → i < j → j < length params → (get_or params i d).id < (get_or params j d).id

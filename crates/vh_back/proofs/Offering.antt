@@ -1,16 +1,16 @@
 -- What was offered after an offer, and after offers of what changed.
-use Rattle.std.proofs.Common.{◌≡◌, ◌<◌, ◌≤◌, ◌+◌, ℕ, zero, suc, Bool, true, false, ◌&&◌, ◌==◌, List, [], ◌∷◌, ◌++◌, length, take, drop, set, get_or, Option, Some, None, unwrap_or, if◌then◌else◌, refl, sym, ap, subst, ◌∙◌, arith, append_assoc}
+use Rattle.std.proofs.Common.{◌≡◌, ◌<◌, ◌≤◌, ◌+◌, ℕ, zero, suc, Bool, true, false, List, [], ◌∷◌, ◌++◌, length, take, drop, set, get_or, Option, Some, None, unwrap_or, if◌then◌else◌, refl, sym, ap, subst, ◌∙◌, arith, append_assoc}
 use Rattle.std.specs.List.{list_any, list_all, AllByRecursion, IsDistinct}
 use Rattle.std.specs.Option.{option_or}
 use Rattle.std.proofs.lemmas.Bool.{and_parts, and_from, eq-eqb, ne_eqb}
-use Rattle.std.proofs.lemmas.List.{append-nil, drop_more, drop_all, drop-set-lt, take_more, take_more_set, take_all, length-set}
+use Rattle.std.proofs.lemmas.List.{append-nil, drop_more, drop-set-lt, take_more, take_more_set, take_all, length-set}
 use Rattle.std.proofs.lemmas.List.Elements.{filter_map-append}
 use Rattle.std.proofs.lemmas.List.Folds.{list_all-append, list_any_at}
 use Rattle.vh_params.specs.declared.command.Reply.{Reply as Answer}
 use Rattle.vh_back.specs.declared.item.Parameter.{Parameter}
 use Rattle.vh_back.specs.declared.item.Item.{Item}
-use Rattle.vh_back.specs.declared.item.Item.TheVariants.{Echo, Reply}
-use Rattle.vh_back.specs.Items.{parameter, is_same, reply_of, is_among, echoed, replies, value_for, last_value, put}
+use Rattle.vh_back.specs.declared.item.Item.TheVariants.{Echo}
+use Rattle.vh_back.specs.Items.{is_same, reply_of, is_among, echoed, replies, value_for, last_value, put}
 use Rattle.vh_back.specs.Ends.{AreOfFew}
 use Rattle.vh_back.specs.Follows.{followed}
 use Rattle.vh_back.specs.Changes.{changes}

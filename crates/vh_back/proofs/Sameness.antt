@@ -1,11 +1,9 @@
 -- Which parameters are one.
-use Rattle.std.proofs.Common.{◌≡◌, ℕ, Bool, true, false, ◌&&◌, ◌==◌, Option, Some, None, if◌then◌else◌, refl, sym, ap, ◌∙◌}
+use Rattle.std.proofs.Common.{◌≡◌, ℕ, Bool, true, false, ◌&&◌, ◌==◌, Option, Some, None, refl, sym, ap, ◌∙◌}
 use Rattle.std.specs.Option.{option_or}
 use Rattle.std.proofs.lemmas.Bool.{and_parts, eqb-true, eq-eqb, true≢false}
 use Rattle.vh_back.specs.declared.item.Parameter.{Parameter}
-use Rattle.vh_back.specs.declared.item.Item.{Item}
-use Rattle.vh_back.specs.declared.item.Item.TheVariants.{Echo, Reply}
-use Rattle.vh_back.specs.Items.{parameter, is_same, replaces, value_for}
+use Rattle.vh_back.specs.Items.{parameter, is_same}
 
 pub same_is : (one other : Parameter) → is_same one other ≡ true → one ≡ other
 same_is one other is =

@@ -1,5 +1,5 @@
 -- What an item does to controllers.
-use Rattle.std.proofs.Common.{◌≡◌, ◌<◌, ◌≤◌, ◌+◌, ◌^◌, ℕ, zero, suc, Bool, true, false, ◌&&◌, ◌==◌, List, [], ◌∷◌, ◌++◌, length, map, set, get_or, Option, Some, None, if◌then◌else◌, refl, sym, ap, subst, ◌∙◌, arith}
+use Rattle.std.proofs.Common.{◌≡◌, ◌<◌, ◌≤◌, ◌^◌, ℕ, suc, Bool, true, false, ◌==◌, List, [], ◌∷◌, ◌++◌, length, map, set, get_or, Option, Some, None, if◌then◌else◌, refl, sym, ap, subst, ◌∙◌, arith}
 use Rattle.std.specs.List.{list_all, AllByRecursion}
 use Rattle.std.specs.Option.{option_or}
 use Rattle.std.proofs.lemmas.Bool.{and_parts, and_left, eq-eqb, eqb-true, ne_eqb, leb-true, true≢false}
@@ -11,11 +11,11 @@ use Rattle.vh_plugin.specs.Controls.{normalized_to}
 use Rattle.vh_back.specs.declared.item.Parameter.{Parameter}
 use Rattle.vh_back.specs.declared.item.Item.{Item}
 use Rattle.vh_back.specs.declared.item.Item.TheVariants.{Echo, Reply}
-use Rattle.vh_back.specs.Items.{parameter, is_same, is_within, value_for, last_value}
+use Rattle.vh_back.specs.Items.{parameter, is_within, value_for, last_value}
 use Rattle.vh_back.specs.Follows.{followed, parameters_at, of_openers, AreFollowed, AreAsBefore}
 use Rattle.vh_back.specs.Laws.{told, told_all}
 use Rattle.vh_back.proofs.Puts.{last_append}
-use Rattle.vh_back.proofs.Following.{AreRising, AreValued, both_followed, none_followed, others_none, all_none, echo_sets, valued_openers, stays, echo_follows, then_follows, same_follows}
+use Rattle.vh_back.proofs.Following.{AreRising, both_followed, none_followed, others_none, all_none, echo_sets, valued_openers, stays, echo_follows, then_follows, same_follows}
 
 -- an echo gives no parameter of a node below a value
 pub below_none : (node id value after : ℕ) (last : Bool) (other key : ℕ) → other < node → value_for (parameter other key) (Echo node id value after last) ≡ None

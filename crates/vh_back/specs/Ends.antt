@@ -1,5 +1,5 @@
 -- What callers see of the two ends of a link.
-use Rattle.std.specs.Prelude.{◌≡◌, ℕ, ◌<◌, ◌≤◌, ◌+◌, Bool, true, List, [], ◌∷◌, ◌++◌, length}
+use Rattle.std.specs.Prelude.{◌≡◌, ℕ, ◌<◌, ◌≤◌, ◌+◌, true, List, [], ◌∷◌, ◌++◌, length}
 use Rattle.std.specs.List.{list_all}
 use Rattle.std.specs.declared.alloc.Global.{Global}
 use denote.RawPtr.{Ptr}
@@ -8,7 +8,7 @@ use Rattle.vh_back.specs.declared.item.Item.{Item}
 use Rattle.vh_back.specs.declared.item.Item.TheVariants.{Echo, Reply}
 use Rattle.vh_back.specs.Items.{is_among, replies}
 
--- which ring
+-- which ring: where it lies, and its names in proofs
 pub record Ring : Type 0 where
   pub words : Ptr
   pub slots : Ptr
@@ -50,6 +50,10 @@ pub record IsSame (old new : AtSender) : Type 0 where
   pub ring : new.ring ≡ old.ring
   pub params : new.params ≡ old.params
   pub tells : new.tells ≡ old.tells
+
+-- no place of the ring that was known to be free is lost, but those that were filled
+abbrev pub KeepsRoom : AtSender → AtSender → Type 0
+KeepsRoom old new = old.free + length old.sent ≤ new.free + length new.sent
 
 -- There are so many parameters at most of which these items are echoes.
 pub record AreOfFew (most : ℕ) (items : List Item) : Type 0 where

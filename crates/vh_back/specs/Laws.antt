@@ -1,5 +1,5 @@
 -- What following means.
-use Rattle.std.specs.Prelude.{◌≡◌, ℕ, true, ◌==◌, List, [], ◌∷◌, length, if◌then◌else◌}
+use Rattle.std.specs.Prelude.{◌≡◌, ℕ, true, ◌==◌, List, [], ◌∷◌, ◌++◌, length, Option, if◌then◌else◌}
 use Rattle.std.specs.List.{list_all}
 use Rattle.vh_plugin.specs.Class.{Class, IsLawful, AreValues, Param}
 use Rattle.vh_plugin.specs.Controls.{normalized_to}
@@ -26,3 +26,8 @@ TheLastStands = (class : Class) (node : ℕ) (values : List ℕ) (items : List I
 -- where nothing was echoed, all values stay
 abbrev pub TheRestStays : Type 0
 TheRestStays = (parameters : List Parameter) (values : List ℕ) → length values ≡ length parameters → followed (last_value []) parameters values ≡ values
+
+-- the values of several nodes follow as those of each node do
+abbrev pub ThePartsFollow : Type 0
+ThePartsFollow = (last : Parameter → Option ℕ) (ones others : List Parameter) (values more : List ℕ) → length values ≡ length ones
+    → followed last (ones ++ others) (values ++ more) ≡ followed last ones values ++ followed last others more

@@ -4,7 +4,7 @@ ghost use Rattle.std.specs.Prelude.{◌≡◌, ◌<◌, ◌≤◌, ◌+◌, ◌^
 ghost use Rattle.std.specs.List.{list_all, IsDistinct};
 ghost use Rattle.vh_back.specs.declared.item.Item.{Item as Told};
 ghost use Rattle.vh_back.specs.Items.{is_same, is_among, replies, last_value};
-ghost use Rattle.vh_back.specs.Ends.{offered, IsSame};
+ghost use Rattle.vh_back.specs.Ends.{offered, IsSame, KeepsRoom};
 ghost use Rattle.vh_back.specs.Follows.{followed};
 ghost use Rattle.vh_back.specs.Changes.{changes};
 
@@ -36,7 +36,7 @@ impl Sender {
         ensures replies { replies (offered self.new) ≡ replies (offered self.old) }
         ensures sent { (items : List Told) × (self.new.sent ≡ self.old.sent ++ items) }
         ensures full { 0 < length self.new.kept → self.new.free ≡ 0 }
-        ensures free { self.old.free + length self.old.sent ≤ self.new.free + length self.new.sent }
+        ensures room { KeepsRoom self.old self.new }
         ensures same { IsSame self.old self.new }
     {
         for (place, parameter) in parameters.iter().enumerate() {

@@ -1,6 +1,6 @@
 //! Laws of the definitions: the contracts of these functions.
 
-ghost use Rattle.vh_back.specs.Laws.{TheLastStands, TheRestStays};
+ghost use Rattle.vh_back.specs.Laws.{TheLastStands, TheRestStays, ThePartsFollow};
 
 use crate::follower::Follower;
 use crate::sender::Sender;
@@ -13,6 +13,11 @@ pub fn the_last_stands()
 /// Where nothing was echoed, all values stay.
 pub fn the_rest_stays()
     ensures { TheRestStays }
+{}
+
+/// The values of several nodes follow as those of each node do.
+pub fn the_parts_follow()
+    ensures { ThePartsFollow }
 {}
 
 fn crosses<X: Send>() {}

@@ -8,7 +8,7 @@ ghost use Rattle.rtrb.specs.Ring.{sent, known_free, SameProducer};
 ghost use Rattle.vh_back.specs.declared.item.Item.{Item as Told};
 ghost use Rattle.vh_back.specs.declared.item.Parameter.{Parameter as Which};
 ghost use Rattle.vh_back.specs.Items.{is_within, replaces, put, replies, value_for, last_value};
-ghost use Rattle.vh_back.specs.Ends.{offered, IsSame, MayOffer};
+ghost use Rattle.vh_back.specs.Ends.{offered, IsSame, KeepsRoom, MayOffer};
 
 use crate::item::{Item, WithinOne};
 use circular_buffer::HeapCircularBuffer;
@@ -50,11 +50,10 @@ impl Sender {
         ensures only { (test : Told → Bool) → list_all test (offered self.old ++ item ∷ []) ≡ true → list_all test (offered self.new) ≡ true }
         ensures sent { (items : List Told) × (self.new.sent ≡ self.old.sent ++ items) }
         ensures full { 0 < length self.new.kept → self.new.free ≡ 0 }
-        ensures free { self.old.free + length self.old.sent ≤ self.new.free + length self.new.sent }
+        ensures room { KeepsRoom self.old self.new }
         ensures same { IsSame self.old self.new }
     {
-        keep(&mut self.kept, item);
-        send(&mut self.producer, &mut self.kept);
+        pass_on(&mut self.producer, &mut self.kept, item);
     }
 
     /// Sends what is kept, as far as there is room.
@@ -62,7 +61,7 @@ impl Sender {
         ensures offered { offered self.new ≡ offered self.old }
         ensures sent { (items : List Told) × (self.new.sent ≡ self.old.sent ++ items) }
         ensures full { 0 < length self.new.kept → self.new.free ≡ 0 }
-        ensures free { self.old.free + length self.old.sent ≤ self.new.free + length self.new.sent }
+        ensures room { KeepsRoom self.old self.new }
         ensures same { IsSame self.old self.new }
     {
         send(&mut self.producer, &mut self.kept);
@@ -93,12 +92,39 @@ fn keep(kept: &mut HeapCircularBuffer<Item>, item: Item)
     }
 }
 
+/// Sends an item where nothing is kept and there is room. Else keeps it, and sends what is kept as far as there is
+/// room.
+fn pass_on(
+    producer: &mut Producer<Item, Global, WithinOne>,
+    kept: &mut HeapCircularBuffer<Item>,
+    item: Item,
+)
+    requires this { is_within item ≡ true }
+    requires within { list_all is_within kept.old.items ≡ true }
+    requires room { length (put item kept.old.items) ≤ kept.old.capacity }
+    ensures moved { (items : List Told) × (sent producer.new ≡ sent producer.old ++ items) × (put item kept.old.items ≡ items ++ kept.new.items) }
+    ensures full { 0 < length kept.new.items → known_free producer.new ≡ 0 }
+    ensures room { known_free producer.old + length (sent producer.old) ≤ known_free producer.new + length (sent producer.new) }
+    ensures ring { SameProducer producer.old producer.new }
+    ensures capacity { kept.new.capacity ≡ kept.old.capacity }
+{
+    if !kept.is_empty() {
+        keep(kept, item);
+        send(producer, kept);
+        return;
+    }
+    match producer.push(item) {
+        Ok(()) => {}
+        Err(_) => keep(kept, item),
+    }
+}
+
 /// Moves what is kept into the ring, the oldest first, until there is no room.
 fn send(producer: &mut Producer<Item, Global, WithinOne>, kept: &mut HeapCircularBuffer<Item>)
     requires { list_all is_within kept.old.items ≡ true }
     ensures moved { (items : List Told) × (sent producer.new ≡ sent producer.old ++ items) × (kept.old.items ≡ items ++ kept.new.items) }
     ensures full { 0 < length kept.new.items → known_free producer.new ≡ 0 }
-    ensures free { known_free producer.old + length (sent producer.old) ≤ known_free producer.new + length (sent producer.new) }
+    ensures room { known_free producer.old + length (sent producer.old) ≤ known_free producer.new + length (sent producer.new) }
     ensures ring { SameProducer producer.old producer.new }
     ensures capacity { kept.new.capacity ≡ kept.old.capacity }
 {

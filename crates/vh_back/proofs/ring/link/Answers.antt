@@ -1,4 +1,4 @@
-use Rattle.std.proofs.Common.{◌≡◌, ◌+◌, ◌≤◌, ℕ, [], List, sym, ap, subst, arith}
+use Rattle.std.proofs.Common.{◌≡◌, List, sym, ap, subst, arith}
 use Rattle.circular_buffer.specs.Buffer.{Buffer}
 use Rattle.vh_back.specs.declared.item.Item.{Item}
 use Rattle.vh_back.specs.Inner.{IsKept}

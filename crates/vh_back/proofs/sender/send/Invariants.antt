@@ -9,7 +9,7 @@ abbrev pub invariant-loop-item : goal.invariant-loop-item
 invariant-loop-item l = record {
   moved : (items : List Item) × (sent l.producer ≡ sent l.initial.producer ++ items) × (l.initial.kept.items ≡ items ++ l.kept.items);
   within : list_all is_within l.kept.items ≡ true;
-  free : known_free l.initial.producer + length (sent l.initial.producer) ≤ known_free l.producer + length (sent l.producer);
+  room : known_free l.initial.producer + length (sent l.initial.producer) ≤ known_free l.producer + length (sent l.producer);
   ring : SameProducer l.initial.producer l.producer;
   capacity : l.kept.capacity ≡ l.initial.kept.capacity;
 }

@@ -1,11 +1,11 @@
-use Rattle.std.proofs.Common.{◌≡◌, ◌<◌, ◌≤◌, ◌^◌, ℕ, List, length, set, get_or, None, refl, sym, ap, subst, ◌∙◌, arith}
+use Rattle.std.proofs.Common.{◌≤◌, ◌^◌, ℕ, List, length, set, get_or, refl, sym, ap, subst, ◌∙◌, arith}
 use Rattle.std.proofs.lemmas.Bool.{leb-true}
 use Rattle.vh_counted.specs.declared.object.Opened.{Opened}
 use Rattle.vh_counted.specs.Held.{value_of_opened, with_value}
 use Rattle.vh_back.specs.declared.item.Item.{Item}
 use Rattle.vh_back.specs.Items.{parameter, is_within, value_for}
 use Rattle.vh_back.specs.Follows.{of_openers, AreFollowed}
-use Rattle.vh_back.proofs.Telling.{below_none, kept_map, echo_told, none_told, as_before, one_as_before}
+use Rattle.vh_back.proofs.Telling.{below_none, kept_map, echo_told, none_told, one_as_before}
 use Rattle.vh_back.proofs.told.tell.Goals as goal
 
 pub returns-then-node-edits-clause-values : goal.returns-then-node-edits-clause-values

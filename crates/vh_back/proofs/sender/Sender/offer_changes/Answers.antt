@@ -1,4 +1,4 @@
-use Rattle.std.proofs.Common.{◌≡◌, ◌+◌, ◌≤◌, ◌++◌, ℕ, List, length, ap, ◌∙◌, arith, append_assoc}
+use Rattle.std.proofs.Common.{◌++◌, ℕ, List, ap, ◌∙◌, arith, append_assoc}
 use Rattle.vh_back.specs.declared.item.Item.{Item}
 use Rattle.vh_back.specs.Items.{parameter}
 use Rattle.vh_back.specs.Ends.{offered}
@@ -21,7 +21,7 @@ loop-place-preserved c =
               was.sent_so.0 ++ now.sent.0,
               now.sent.1 ∙ ap (λ (items : List Item). items ++ now.sent.0) was.sent_so.1 ∙ append_assoc c.args.self.now.sent was.sent_so.0 now.sent.0,
             );
-            free_so = omega (arith, was.free_so, now.free);
+            room_so = omega (arith, was.room_so, now.room);
             same_so = record {
               ring = now.same.ring ∙ was.same_so.ring;
               params = now.same.params ∙ was.same_so.params;
@@ -32,7 +32,7 @@ loop-place-preserved c =
         offered_so = not_offered c.args.parameters.now c.args.echoed.now c.args.values.now c.args.after c.args.last (offered c.args.self.now) (offered c.loop-place.self) c.loop-place.echoed place (parameter 0 0)
             was.offered_so within c.requires.values w.if-changed.false;
         sent_so = was.sent_so;
-        free_so = was.free_so;
+        room_so = was.room_so;
         same_so = was.same_so;
       })
     ]

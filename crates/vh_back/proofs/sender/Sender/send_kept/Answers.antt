@@ -1,4 +1,4 @@
-use Rattle.std.proofs.Common.{◌≡◌, ◌+◌, ◌≤◌, ◌++◌, ℕ, List, sym, subst}
+use Rattle.std.proofs.Common.{◌+◌, ◌≤◌, ℕ, List, sym, subst}
 use Rattle.vh_back.specs.declared.item.Item.{Item}
 use Rattle.vh_back.specs.Inner.{IsKept}
 use Rattle.vh_back.proofs.Keeping.{kept_rest}
