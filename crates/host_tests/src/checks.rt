@@ -33,7 +33,7 @@ fn the_calls_of_a_check_fail_in_turn(rt: HostRuntime) -> Result<(), Fail> {
         files.fail(alloc, op, number)?;
         let mut say = MemSay::new(alloc)?;
         assert_eq!(rt;
-            run_words(alloc, "check s", &mut files, &mut say)?,
+            run_words(&rt, alloc, "check s", &mut files, &mut say)?,
             status,
             "{op:?} {number}"
         );
@@ -44,11 +44,11 @@ fn the_calls_of_a_check_fail_in_turn(rt: HostRuntime) -> Result<(), Fail> {
     let mut say = MemSay::new(alloc)?;
     say.fail(alloc, 1)?;
     assert_eq!(rt;
-        run_words(alloc, "check s", &mut files, &mut say)?,
+        run_words(&rt, alloc, "check s", &mut files, &mut say)?,
         Status::WriteFault(Place::Report)
     );
     assert_eq!(rt;
-        run_words(alloc, "check nosuch", &mut files, &mut say)?,
+        run_words(&rt, alloc, "check nosuch", &mut files, &mut say)?,
         Status::ReadFault(Place::Session)
     );
     Ok(())

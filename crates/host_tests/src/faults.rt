@@ -1,4 +1,4 @@
-use crate::stores::{INPUT, REPORT, Trickle, render, session_with, store};
+use crate::stores::{INPUT, REPORT, Trickle, render, run_words, session_with, store};
 use std::test::Fail;
 use vh_files::{MemFiles, MemSay, Op};
 use vh_host::{Place, Status};
@@ -35,7 +35,7 @@ fn each_call_fails_in_turn(rt: HostRuntime) -> Result<(), Fail> {
         files.fail(alloc, op, number)?;
         let mut say = MemSay::new(alloc)?;
         assert_eq!(rt;
-            render(alloc, &mut files, &mut say)?,
+            render(&rt, alloc, &mut files, &mut say)?,
             status,
             "{op:?} {number}"
         );
@@ -58,17 +58,17 @@ fn nothing_can_be_said(rt: HostRuntime) -> Result<(), Fail> {
     let mut say = MemSay::new(alloc)?;
     say.fail(alloc, 1)?;
     assert_eq!(rt;
-        render(alloc, &mut files, &mut say)?,
+        render(&rt, alloc, &mut files, &mut say)?,
         Status::WriteFault(Place::Report)
     );
     assert_eq!(rt; files.get("out.wav"), Some(INPUT));
     assert_eq!(rt; say.said(), b"".as_slice());
-    assert_eq!(rt; render(alloc, &mut files, &mut say)?, Status::Ok);
+    assert_eq!(rt; render(&rt, alloc, &mut files, &mut say)?, Status::Ok);
     assert_eq!(rt; say.said(), REPORT.as_bytes());
     let mut none = MemFiles::new(alloc)?;
     let mut say = MemSay::new(alloc)?;
     say.fail(alloc, 1)?;
-    assert_eq!(rt; render(alloc, &mut none, &mut say)?, SESSION);
+    assert_eq!(rt; render(&rt, alloc, &mut none, &mut say)?, SESSION);
     assert_eq!(rt; say.said(), b"".as_slice());
     Ok(())
 }
@@ -80,8 +80,44 @@ fn one_byte_at_a_time(rt: HostRuntime) -> Result<(), Fail> {
         files: store(alloc, session_with(alloc, 4, "pattern 2")?, INPUT)?,
     };
     let mut say = MemSay::new(alloc)?;
-    assert_eq!(rt; render(alloc, &mut files, &mut say)?, Status::Ok);
+    assert_eq!(rt; render(&rt, alloc, &mut files, &mut say)?, Status::Ok);
     assert_eq!(rt; files.files.get("out.wav"), Some(INPUT));
     assert_eq!(rt; say.said().get(26..35), Some(b"pieces 2\n".as_slice()));
+    Ok(())
+}
+
+#[test]
+fn a_journals_calls_fail_in_turn(rt: HostRuntime) -> Result<(), Fail> {
+    let alloc = rt.alloc();
+    let journal = "vsthost journal 1\n0 0 0 begin a 0\n0 0 1 perform a 0 0\nclose\n";
+    let fault = Status::ReadFault(Place::Journal);
+    let rows = [
+        (Op::Size, 3, fault, None),
+        (Op::Read, 6, fault, None),
+        (Op::Read, 7, Status::Ok, Some(50)),
+        (Op::Append, 1, OUTPUT, Some(0)),
+    ];
+    for (op, number, status, size) in rows {
+        let mut files = store(alloc, session_with(alloc, 9, "")?, INPUT)?;
+        files.put(alloc, "j", Vec::from_slice(alloc, journal.as_bytes())?)?;
+        files.fail(alloc, op, number)?;
+        let mut say = MemSay::new(alloc)?;
+        assert_eq!(rt;
+            run_words(
+                &rt,
+                alloc,
+                "replay s in.wav out.wav j",
+                &mut files,
+                &mut say
+            )?,
+            status,
+            "{op:?} {number}"
+        );
+        assert_eq!(rt;
+            files.get("out.wav").map(<[u8]>::len),
+            size,
+            "{op:?} {number}"
+        );
+    }
     Ok(())
 }

@@ -1,9 +1,11 @@
 //! The stores of the tests, and the run of a command over them.
 
 use std::alloc::{AllocError, Global};
+use std::process::Abort;
 use vh_builtin::BuiltIn;
 use vh_files::{Failed, Files, MemFiles, MemSay, Say};
 use vh_host::{Status, run};
+use vh_plugin::PluginSet;
 
 /// The lines of a session of one gain.
 pub const LINES: [&str; 8] = [
@@ -44,8 +46,9 @@ pub fn store(alloc: Global, session: Vec<u8>, input: &[u8]) -> Result<MemFiles, 
     Ok(files)
 }
 
-/// Runs a command of the words of this line.
+/// Runs a command of the words of this line, and sees that what it made is ended.
 pub fn run_words<F: Files, Y: Say>(
+    rt: &impl Abort,
     alloc: Global,
     line: &str,
     files: &mut F,
@@ -56,16 +59,19 @@ pub fn run_words<F: Files, Y: Say>(
         command.push(String::from_str(alloc, word)?)?;
     }
     let mut set = BuiltIn::new(alloc)?;
-    Ok(run(alloc, command.as_slice(), files, say, &mut set))
+    let status = run(alloc, command.as_slice(), files, say, &mut set);
+    assert_eq!(rt; set.ended(), set.made(), "{line}");
+    Ok(status)
 }
 
 /// Renders session `s` over `in.wav` to `out.wav`.
 pub fn render<F: Files, Y: Say>(
+    rt: &impl Abort,
     alloc: Global,
     files: &mut F,
     say: &mut Y,
 ) -> Result<Status, AllocError> {
-    run_words(alloc, "render s in.wav out.wav", files, say)
+    run_words(rt, alloc, "render s in.wav out.wav", files, say)
 }
 
 /// A store that gives and takes one byte at a time.

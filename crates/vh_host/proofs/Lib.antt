@@ -1,4 +1,16 @@
-pub mod Texts
-pub mod Output
-pub mod Final
-pub mod Answered
+mod Bands
+mod Calls
+mod Decided
+mod Entries
+mod Gathering
+mod Hearing
+mod Outcomes
+mod Playing
+mod Readings
+mod Ready
+mod Rendered
+mod Replies
+mod Sized
+mod Sizes
+mod Split
+mod Wires

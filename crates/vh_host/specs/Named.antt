@@ -1,17 +1,34 @@
 -- The command that was read.
-use Rattle.std.specs.Prelude.{Option, Some, None}
-use Rattle.vh_host.specs.declared.top.Command.{Command as Read}
-use Rattle.vh_host.specs.declared.top.Command.TheVariants as read
-use Rattle.vh_host.specs.declared.top.Names.{Names as Files}
-use Rattle.vh_host.specs.Words.{Names, Command, Render, Check}
+use Rattle.std.specs.Option.{option_map}
+use Rattle.std.specs.Prelude.{◌≤◌, ⊤, Option, Some, None, Result, Ok, Err, List, ℕ}
+use Rattle.vh_answers.specs.declared.status.Status.{Status}
+use Rattle.vh_answers.specs.declared.status.Status.TheVariants as status
+use Rattle.vh_host.specs.declared.words.Command.{Command as Read}
+use Rattle.vh_host.specs.declared.words.Command.TheVariants as read
+use Rattle.vh_host.specs.declared.words.Render.{Render as Files}
+use Rattle.vh_host.specs.Words.{Render, Command, Renders, Checks}
 
-abbrev pub names_of : Files → Names
-names_of files = record { session = files.session.now; input = files.input.now; output = files.output.now }
+abbrev pub render_of : Files → Render
+render_of files = record { session = files.session.now; input = files.input.now; output = files.output.now; journal = option_map (λ name. name.now) files.journal; block = files.block }
 
 abbrev pub command_of : Read → Command
-command_of (read.Render names) = Render (names_of names)
-command_of (read.Check session) = Check session.now
+command_of (read.Render files) = Renders (render_of files)
+command_of (read.Check session) = Checks session.now
 
 abbrev pub commanded : Option Read → Option Command
 commanded None = None
 commanded (Some read) = Some (command_of read)
+
+-- what a command that stopped answers, or Ok
+abbrev pub status_of : {T : Type 0} → Result T Status → Status
+status_of (Ok _) = status.Ok
+status_of (Err answer) = answer
+
+-- the frames of a block that words give are 1 to 8192
+abbrev pub IsSize : Option ℕ → Type 0
+IsSize None = ⊤
+IsSize (Some size) = (1 ≤ size) × (size ≤ 8192)
+
+abbrev pub IsSized : Command → Type 0
+IsSized (Renders render) = IsSize render.block
+IsSized (Checks name) = ⊤

@@ -1,14 +1,16 @@
 //! The top calls of the host.
 #![tactic(auto)]
 
+mod blocks;
 mod check;
-mod gain;
-mod lines;
+mod input;
+mod journal;
+mod material;
+mod read;
 mod render;
-mod report;
 mod session;
-mod status;
 mod top;
+mod words;
 
-pub use status::{Place, Status};
 pub use top::run;
+pub use vh_answers::{Place, Status};

@@ -1,235 +1,234 @@
-//! Reading what a rendering needs, and writing what it gives.
+//! `render` and `replay`.
 
-ghost use Rattle.std.specs.Prelude.{◌≡◌, ◌≢◌, ◌≤◌, ◌<◌, ◌*◌, ◌^◌, ◌⊎◌, ℕ, true, List, [], ◌+◌, ◌++◌, length, slice_index_or, pos, take, drop, Some, IsSome, OnOk, OnErr, IfOk, IfErr, Result, Err, MatchResult};
-ghost use Rattle.vh_files.specs.Causes.{Rose, OnlyRead};
-ghost use Rattle.vh_files.specs.Store.{told, Lacks, HasNow, SameElsewhere};
-ghost use Rattle.vh_wav.specs.Heads.{IsHead, frames_end};
-ghost use Rattle.vh_wav.specs.Samples.{sample_in};
-ghost use Rattle.vh_wav.specs.Text.{wav_text, frames_text};
-ghost use Rattle.vh_session.specs.Limits.{session_limit};
+ghost use Rattle.std.specs.Prelude.{◌≡◌, ◌≤◌, ◌<◌, ◌+◌, ◌*◌, ◌-◌, ◌^◌, ◌⊎◌, ℕ, List, [], length, map, replicate, sum, sum_by, All, IfOk, false};
+ghost use Rattle.vh_component.specs.declared.setup.Phase.TheVariants.{Processing as AtProcessing};
+ghost use Rattle.vh_cut.specs.Cut.{IsPattern};
+ghost use Rattle.vh_files.specs.Store.{SameElsewhere};
+ghost use Rattle.vh_journal_text.specs.Items.{items_of};
+ghost use Rattle.vh_journal_text.specs.Keeps.{AreEntries, AreThere};
+ghost use Rattle.vh_num.specs.Frames.{Frame};
+ghost use Rattle.vh_params.specs.Nodes.{nodes_of};
+ghost use Rattle.vh_plugin.specs.Counts.{raised_by};
+ghost use Rattle.vh_session.specs.Names.{content_of};
+ghost use Rattle.vh_meaning.specs.Scene.{node_count};
+ghost use Rattle.vh_engine.specs.Kept.{scene_in, Stands, IsSameEngine};
+ghost use Rattle.vh_instance.specs.Band.{IsBand, IsHeld, of_processors, of_openers};
+ghost use Rattle.vh_render.specs.Playing.{HasRoom, IsPlayable};
+ghost use Rattle.vh_answers.specs.Outside.{store, outside, KeepsCounts};
+ghost use Rattle.vh_answers.specs.Steps.{EndsUnsaid};
+ghost use Rattle.vh_answers.specs.Told.{written_in};
+ghost use Rattle.vh_host.specs.Words.{Render as Asked};
+ghost use Rattle.vh_host.specs.Known.{Known, scene_under, plan_of, AreEnded};
+ghost use Rattle.vh_host.specs.Input.{Heard, IsHeard};
+ghost use Rattle.vh_host.specs.Material.{IsGathered};
+ghost use Rattle.vh_host.specs.Scores.{IsScore};
+ghost use Rattle.vh_host.specs.Commands.{render_steps, made_steps, played_steps, pattern_of};
+ghost use Rattle.vh_host.specs.Named.{render_of, status_of, IsSize};
 
-use crate::gain::{UNITY, apply_gain};
-use crate::status::{Place, Status};
-use std::alloc::Global;
-use vh_files::{Failed, Files, append_all, fill};
-use vh_session::{SESSION_LIMIT, SessionFault, SessionKind};
-use vh_wav::{Head, HeadRefused, WavFault, frame_bytes, head_bytes, read_frames, read_head};
+use crate::blocks::Blocks;
+use crate::material::{Material, read_material};
+use crate::session::read_plain;
+use crate::words::Render;
+use std::alloc::{AllocError, Global};
+use vh_answers::{Line, Place, Report, Status};
+use vh_counted::Opened;
+use vh_engine::{Engine, Parts};
+use vh_files::{Files, Say};
+use vh_instance::laws::raised_by_sum;
+use vh_instance::{Band, make, tear_down};
+use vh_plugin::{Controller, PluginSet, Processor};
+use vh_render::{Room, Score};
+use vh_session::Session;
 
-/// The samples of an input of one channel, and its rate.
+/// How each node's controller shows its values.
+fn modes<C: Controller + Drop>(alloc: Global, edits: &[Opened<C>]) -> Result<Vec<u32>, AllocError>
+    ensures { IfOk result (λ modes. modes.items ≡ of_openers C.mode edits.now) }
+{
+    let mut modes = Vec::new(alloc);
+    for opened in edits {
+        modes.push(opened.value().mode())?;
+    }
+    Ok(modes)
+}
+
+/// What a rendering takes beside its engine, before anything is written: room for a piece and for a line of the report,
+/// and how each node's controller shows its values.
 #[derive(Drop)]
-pub struct Samples {
-    pub rate: u32,
-    pub frames: Vec<i32>,
+struct Supplies {
+    room: Room,
+    line: Line,
+    modes: Vec<u32>,
 }
 
-ghost use Rattle.vh_host.specs.Stops.{SessionStops, LongStops, InputStops, IsInput, HasPart, HasBlocks, gained};
-
-/// Reads a session's bytes.
-pub fn read_session<F: Files>(alloc: Global, files: &mut F, name: &str) -> Result<Vec<u8>, Status>
-    ensures text { (bytes : List ℕ) → told (F.held files.old) name.now ≡ Some bytes → IfOk result (λ text. text.items ≡ bytes) }
-    ensures there { OnOk result (F.complete files.old ≡ true → IsSome (told (F.held files.old) name.now)) }
-    ensures limit { IfOk result (λ text. length text.items ≤ session_limit) }
-    ensures stop { IfErr result (SessionStops (F.complete files.old) (F.held files.old) name.now (F.read_faults files.old) (F.read_faults files.new)) }
-    ensures too_long { IfErr result (LongStops (F.complete files.old) (F.held files.old) name.now) }
-    ensures only_read { OnlyRead (F.held files.old) (F.held files.new) (F.complete files.old) (F.complete files.new) (F.write_faults files.old) (F.write_faults files.new) (F.read_faults files.old) (F.read_faults files.new) }
-{
-    let Ok(size) = files.size(name) else {
-        return Err(Status::ReadFault(Place::Session));
-    };
-    if size > SESSION_LIMIT {
-        return Err(Status::SessionRefused(SessionFault {
-            line: 0,
-            kind: SessionKind::TooLong,
-        }));
-    }
-    let Ok(mut text) = vec![in alloc; 0u8; size as usize] else {
-        return Err(Status::Memory);
-    };
-    let Ok(got) = fill(files, name, 0, text.as_mut_slice()) else {
-        return Err(Status::ReadFault(Place::Session));
-    };
-    text.truncate(got);
-    Ok(text)
-}
-
-/// Applies the gain to a block's samples, and gives their bytes in the front of `buffer`.
-fn render_piece(samples: &mut [i32], buffer: &mut [u8]) -> usize
-    requires { 2 * length samples.old ≤ length buffer.old }
-    ensures used { result ≡ 2 * length samples.old }
-    ensures bytes { take result buffer.new ≡ frames_text 16 (gained samples.old) }
-{
-    apply_gain(samples, UNITY);
-    frame_bytes(16, samples, 1, buffer)
-}
-
-/// Adds the next bytes of a text to a file that has the text's front.
-fn append_next<F: Files>(files: &mut F, name: &str, bytes: &[u8]) -> Result<(), Failed>
-    ensures next { (text : List ℕ) (at : ℕ) → HasNow (F.complete files.old) (told (F.held files.old) name.now) (take at text) → bytes.now ≡ take (length bytes.now) (drop at text)
-        → MatchResult result (λ _. HasNow (F.complete files.old) (told (F.held files.new) name.now) (take (at + length bytes.now) text)) (λ _. HasPart (F.complete files.old) (told (F.held files.new) name.now) text) }
-    ensures rose { (text : List ℕ) → HasNow (F.complete files.old) (told (F.held files.old) name.now) text → OnErr result (Rose (F.write_faults files.old) (F.write_faults files.new)) }
-    ensures others { SameElsewhere name.now (F.held files.old) (F.held files.new) }
-    ensures later { F.write_faults files.old ≤ F.write_faults files.new }
-    ensures complete { F.complete files.new ≡ F.complete files.old }
-    ensures reads { F.read_faults files.new ≡ F.read_faults files.old }
-{
-    append_all(files, name, bytes)
-}
-
-/// Makes a file that begins with these bytes.
-fn begin<F: Files>(files: &mut F, name: &str, head: &[u8]) -> Result<(), Failed>
-    ensures begun { (text : List ℕ) → head.now ≡ take (length head.now) (drop 0 text)
-        → MatchResult result (λ _. HasNow (F.complete files.old) (told (F.held files.new) name.now) (take (length head.now) text)) (λ _. (F.held files.new ≡ F.held files.old) ⊎ HasPart (F.complete files.old) (told (F.held files.new) name.now) text) }
-    ensures rose { OnErr result (Rose (F.write_faults files.old) (F.write_faults files.new)) }
-    ensures others { SameElsewhere name.now (F.held files.old) (F.held files.new) }
-    ensures later { F.write_faults files.old ≤ F.write_faults files.new }
-    ensures complete { F.complete files.new ≡ F.complete files.old }
-    ensures reads { F.read_faults files.new ≡ F.read_faults files.old }
-{
-    match files.create(name) {
-        Ok(()) => append_next(files, name, head),
-        Err(failed) => Err(failed),
+impl Supplies {
+    fn new<C: Controller + Drop>(
+        alloc: Global,
+        channels: u16,
+        max: usize,
+        edits: &[Opened<C>],
+    ) -> Result<Supplies, AllocError>
+        requires channels { (channels ≡ 1) ⊎ (channels ≡ 2) }
+        requires most { max ≤ 8192 }
+        ensures room { IfOk result (λ supplies. HasRoom channels max supplies.room) }
+        ensures modes { IfOk result (λ supplies. supplies.modes.items ≡ of_openers C.mode edits.now) }
+    {
+        Ok(Supplies {
+            room: Room::new(alloc, channels, max)?,
+            line: Line::new(alloc)?,
+            modes: modes(alloc, edits)?,
+        })
     }
 }
 
-/// Adds the frames of a rendering to a file, block by block. The samples of the input become those of
-/// the output.
-fn write_blocks<F: Files>(
+/// Renders what an engine has into a file, and says the report. Nothing here takes memory.
+fn play<F: Files, Y: Say, P: Processor + Drop>(
+    engine: &mut Engine<P>,
+    score: &Score<'_>,
+    output: &str,
+    supplies: &mut Supplies,
     files: &mut F,
-    name: &str,
-    size: usize,
-    frames: &mut [i32],
-    buffer: &mut [u8],
-) -> Result<(), Failed>
-    requires some { 1 ≤ size }
-    requires room { 2 * size ≤ length buffer.old }
-    ensures written { (text : List ℕ) (at : ℕ) → HasNow (F.complete files.old) (told (F.held files.old) name.now) (take at text) → HasBlocks text at frames.old
-        → MatchResult result (λ _. HasNow (F.complete files.old) (told (F.held files.new) name.now) (take (at + 2 * length frames.old) text)) (λ _. HasPart (F.complete files.old) (told (F.held files.new) name.now) text) }
-    ensures rose { (text : List ℕ) (at : ℕ) → HasNow (F.complete files.old) (told (F.held files.old) name.now) (take at text) → HasBlocks text at frames.old → OnErr result (Rose (F.write_faults files.old) (F.write_faults files.new)) }
-    ensures others { SameElsewhere name.now (F.held files.old) (F.held files.new) }
-    ensures later { F.write_faults files.old ≤ F.write_faults files.new }
-    ensures complete { F.complete files.new ≡ F.complete files.old }
-    ensures reads { F.read_faults files.new ≡ F.read_faults files.old }
+    say: &mut Y,
+) -> Result<(), Status>
+    requires playable { IsPlayable P.class_of engine.old score.now supplies.old.room }
+    requires stands { (input : List Frame) → Stands P.class_of engine.old input [] }
+    requires calls { engine.old.calls ≡ replicate (length engine.old.session.nodes) 0 }
+    requires modes { length supplies.old.modes.items ≡ length engine.old.session.nodes }
+    requires nodes { node_count (scene_in P.class_of engine.old) ≡ length engine.old.session.nodes }
+    requires short { engine.old.session.length < 2 ^ 32 }
+    requires scored { (asked : Asked) × (heard : Heard) × IsScore asked engine.old.session heard output.now score.now supplies.old.modes.items }
+    ensures ends { (asked : Asked) (heard : Heard) → IsScore asked engine.old.session heard output.now score.now supplies.old.modes.items
+        → EndsUnsaid (λ calls. sum engine.new.calls ≡ calls) (outside F.Files Y.Say files.old files.new say.old say.new) (played_steps (scene_in P.class_of engine.old) asked engine.old.session heard score.now.entries.now) (status_of result) }
+    ensures same { IsSameEngine engine.old engine.new }
+    ensures others { SameElsewhere output.now (F.held files.old) (F.held files.new) }
+    ensures counts { KeepsCounts (outside F.Files Y.Say files.old files.new say.old say.new) }
 {
-    let mut done = 0;
-    while done < frames.len() {
-        let n = size.min(frames.len() - done);
-        let used = render_piece(&mut frames[done..done + n], buffer);
-        match append_next(files, name, &buffer[..used]) {
-            Ok(()) => done += n,
-            Err(failed) => return Err(failed),
-        }
-    }
-    Ok(())
-}
-
-/// Writes the file of a rendering. The samples of the input become those of the output.
-pub fn write_output<F: Files>(
-    files: &mut F,
-    name: &str,
-    rate: u32,
-    size: usize,
-    frames: &mut [i32],
-    buffer: &mut [u8],
-) -> Result<(), Failed>
-    requires rate { rate ≤ 768000 }
-    requires frames { length frames.old ≤ 2 ^ 24 }
-    requires some { 1 ≤ size }
-    requires room { 2 * size ≤ length buffer.old }
-    ensures ok { OnOk result (HasNow (F.complete files.old) (told (F.held files.new) name.now) (wav_text 1 rate 16 (gained frames.old))) }
-    ensures err { OnErr result ((F.held files.new ≡ F.held files.old) ⊎ HasPart (F.complete files.old) (told (F.held files.new) name.now) (wav_text 1 rate 16 (gained frames.old))) }
-    ensures rose { OnErr result (Rose (F.write_faults files.old) (F.write_faults files.new)) }
-    ensures others { SameElsewhere name.now (F.held files.old) (F.held files.new) }
-    ensures later { F.write_faults files.old ≤ F.write_faults files.new }
-    ensures complete { F.complete files.new ≡ F.complete files.old }
-    ensures reads { F.read_faults files.new ≡ F.read_faults files.old }
-{
-    let head = head_bytes(1, rate, 16, frames.len() as u32);
-    match begin(files, name, &head) {
-        Ok(()) => write_blocks(files, name, size, frames, buffer),
-        Err(failed) => Err(failed),
+    let Ok(pieces) = vh_render::render(engine, score, files, output, &mut supplies.room) else {
+        return Err(Status::WriteFault(Place::Output));
+    };
+    let report = Report {
+        pieces,
+        values: engine.values(),
+        modes: &supplies.modes,
+        replies: engine.replies(),
+        editors: &[],
+    };
+    match report.say(engine.session(), &mut supplies.line, say) {
+        Ok(()) => Ok(()),
+        Err(_) => Err(Status::WriteFault(Place::Report)),
     }
 }
 
-/// How many frames are read at once.
-const CHUNK: usize = 65_536;
-
-/// Reads the samples of a file of one channel, zero past its end.
-fn read_samples<F: Files>(
-    files: &mut F,
-    name: &str,
-    head: &Head,
-    frames: &mut [i32],
-    scratch: &mut [u8],
-) -> Result<(), Failed>
-    requires there { F.complete files.old ≡ true → IsSome (told (F.held files.old) name.now) }
-    requires head { IsHead head.now }
-    requires fits { frames_end head.now < 2 ^ 64 }
-    requires mono { head.now.channels ≡ 1 }
-    requires scratch { 6 * CHUNK ≤ length scratch.old }
-    ensures frames { (bytes : List ℕ) → told (F.held files.old) name.now ≡ Some bytes → OnOk result ((i : ℕ) → i < length frames.new → slice_index_or frames.new i (pos 0) ≡ sample_in bytes head.now 0 i) }
-    ensures only_read { OnlyRead (F.held files.old) (F.held files.new) (F.complete files.old) (F.complete files.new) (F.write_faults files.old) (F.write_faults files.new) (F.read_faults files.old) (F.read_faults files.new) }
-    ensures failed { OnErr result (Rose (F.read_faults files.old) (F.read_faults files.new)) }
-{
-    let mut done = 0;
-    while done < frames.len() {
-        let n = CHUNK.min(frames.len() - done);
-        read_frames(
-            files,
-            name,
-            head,
-            done as u64,
-            n,
-            scratch,
-            &mut frames[done..done + n],
-        )?;
-        done += n;
-    }
-    Ok(())
-}
-
-/// Reads the input's samples.
-pub fn read_input<F: Files>(
+/// Renders a session by its instances, which come back with their processors processing.
+fn render_band<F: Files, Y: Say, P: Processor + Drop, C: Controller + Drop>(
     alloc: Global,
+    render: &Render<'_>,
+    blocks: &Blocks,
+    session: Session,
+    band: Band<P, C>,
     files: &mut F,
-    name: &str,
-    count: u32,
-) -> Result<Samples, Status>
-    requires { count ≤ 2 ^ 24 }
-    ensures input { (bytes : List ℕ) → told (F.held files.old) name.now ≡ Some bytes → IfOk result (IsInput bytes count) }
-    ensures there { OnOk result (F.complete files.old ≡ true → IsSome (told (F.held files.old) name.now)) }
-    ensures rate { IfOk result (λ input. input.rate ≤ 768000) }
-    ensures count { IfOk result (λ input. length input.frames.items ≡ count) }
-    ensures stop { IfErr result (InputStops (F.complete files.old) (F.held files.old) name.now (F.read_faults files.old) (F.read_faults files.new)) }
-    ensures only_read { OnlyRead (F.held files.old) (F.held files.new) (F.complete files.old) (F.complete files.new) (F.write_faults files.old) (F.write_faults files.new) (F.read_faults files.old) (F.read_faults files.new) }
+    say: &mut Y,
+) -> (Band<P, C>, Result<(), Status>)
+    requires band { (known : Known) × (known.class_of ≡ P.class_of) × IsBand
+        (record { code = P.code; values = P.values; state = P.state; calls = P.calls; phase = P.phase; setup = P.last_setup })
+        (record { code = C.code; values = C.values; mode = C.mode })
+        (plan_of known (content_of session) blocks.now.longest) band }
+    requires pattern { IsPattern blocks.now.sizes.items }
+    requires sizes { blocks.now.sizes.items ≡ pattern_of render.now.block (content_of session) }
+    ensures held { IsHeld result.0 }
+    ensures processing { All (λ phase. phase ≡ AtProcessing) (of_processors P.phase result.0.processors.items) }
+    ensures components { length result.0.components.items ≡ length (nodes_of session.nodes) }
+    ensures controllers { length result.0.controllers.items ≡ length (nodes_of session.nodes) }
+    ensures ends { (known : Known) → known.class_of ≡ P.class_of → IsBand
+        (record { code = P.code; values = P.values; state = P.state; calls = P.calls; phase = P.phase; setup = P.last_setup })
+        (record { code = C.code; values = C.values; mode = C.mode })
+        (plan_of known (content_of session) blocks.now.longest) band
+        → EndsUnsaid (λ calls. sum (of_processors P.calls result.0.processors.items) ≡ calls) (outside F.Files Y.Say files.old files.new say.old say.new)
+        (made_steps (scene_under known (content_of session)) (render_of render.now) (content_of session)) (status_of result.1) }
+    ensures others { SameElsewhere render.now.output.now (F.held files.old) (F.held files.new) }
+    ensures counts { KeepsCounts (outside F.Files Y.Say files.old files.new say.old say.new) }
 {
-    let Ok(size) = files.size(name) else {
-        return Err(Status::ReadFault(Place::Input));
+    let max = blocks.longest as usize;
+    let Ok(mut supplies) = Supplies::new(alloc, session.channels, max, &band.edits) else {
+        return (band, Err(Status::Memory));
     };
-    let head = match read_head(files, name, size) {
-        Ok(head) => head,
-        Err(HeadRefused::Failed) => return Err(Status::ReadFault(Place::Input)),
-        Err(HeadRefused::Wav(fault)) => return Err(Status::WavRefused(fault)),
+    let material = match read_material(alloc, files, render, &session) {
+        Ok(material) => material,
+        Err(status) => return (band, Err(status)),
     };
-    if head.channels != 1 {
-        return Err(Status::WavRefused(WavFault::OtherChannels(head.channels)));
-    }
-    let Ok(mut frames) = vec![in alloc; 0i32; count as usize] else {
+    let score = material.score(blocks, &session);
+    let Band {
+        components,
+        controllers,
+        processors,
+        edits,
+        holders,
+        first,
+    } = band;
+    let parts = Parts {
+        session,
+        processors,
+        first,
+    };
+    let (parts, result) = match Engine::new(alloc, parts, max, material.stops.len()) {
+        Ok(mut engine) => {
+            let result = play(
+                &mut engine,
+                &score,
+                render.output,
+                &mut supplies,
+                files,
+                say,
+            );
+            (engine.finish(), result)
+        }
+        Err(parts) => (parts, Err(Status::Memory)),
+    };
+    let Parts {
+        session: _,
+        processors,
+        first,
+    } = parts;
+    let band = Band {
+        components,
+        controllers,
+        processors,
+        edits,
+        holders,
+        first,
+    };
+    (band, result)
+}
+
+/// Renders a session over its input, under the entries of a journal where there is one, and says the report. All
+/// instances are made and ended.
+///
+/// A call of `raised_by_sum` does nothing: the proof uses what it ensures.
+pub(crate) fn render<F: Files, Y: Say, S: PluginSet>(
+    alloc: Global,
+    render: &Render<'_>,
+    files: &mut F,
+    say: &mut Y,
+    set: &mut S,
+) -> Result<(), Status>
+    requires size { IsSize render.now.block }
+    requires work { S.work set.old ≤ 2 ^ 64 - 1 }
+    ensures ends { EndsUnsaid (λ calls. S.work set.new ≡ raised_by calls (S.work set.old)) (outside F.Files Y.Say files.old files.new say.old say.new)
+        (render_steps (record { infos = S.infos set.old; code = S.code set.old; class_of = S.P.Processor.class_of }) (render_of render.now)) (status_of result) }
+    ensures others { SameElsewhere render.now.output.now (F.held files.old) (F.held files.new) }
+    ensures counts { KeepsCounts (outside F.Files Y.Say files.old files.new say.old say.new) }
+    ensures objects { AreEnded (S.made set.old) (S.ended set.old) (S.made set.new) (S.ended set.new) }
+    ensures infos { S.infos set.new ≡ S.infos set.old }
+    ensures codes { (class : ℕ) → S.code set.new class ≡ S.code set.old class }
+{
+    let session = read_plain(alloc, files, render.session, set.classes())?;
+    let Ok(blocks) = Blocks::new(alloc, &session, render.block) else {
         return Err(Status::Memory);
     };
-    let Ok(mut scratch) = vec![in alloc; 0u8; 6 * CHUNK] else {
+    let Ok(band) = make(alloc, set, &session, blocks.longest) else {
         return Err(Status::Memory);
     };
-    match read_samples(
-        files,
-        name,
-        &head,
-        frames.as_mut_slice(),
-        scratch.as_mut_slice(),
-    ) {
-        Ok(()) => Ok(Samples {
-            rate: head.rate,
-            frames,
-        }),
-        Err(Failed) => Err(Status::ReadFault(Place::Input)),
-    }
+    let (band, result) = render_band(alloc, render, &blocks, session, band, files, say);
+    raised_by_sum();
+    tear_down(set, band);
+    result
 }

@@ -1,181 +1,84 @@
 //! The top call.
 
-ghost use Rattle.std.specs.Prelude.{◌≡◌, ◌≤◌, map, IfErr, OnOk};
+ghost use Rattle.std.specs.Prelude.{◌≡◌, ◌≤◌, ℕ, map, Some};
 ghost use Rattle.std.specs.String.{string_bytes};
-ghost use Rattle.vh_files.specs.Causes.{Rose};
+ghost use Rattle.vh_plugin.specs.Counts.{raised_by};
+ghost use Rattle.vh_answers.specs.Outside.{outside, ChangesOnly, KeepsCounts};
+ghost use Rattle.vh_answers.specs.Steps.{EndsUnsaid, Answers, IsUnhindered, IsDone};
 ghost use Rattle.vh_host.specs.Words.{command_in};
+ghost use Rattle.vh_host.specs.Known.{Known, AreEnded};
+ghost use Rattle.vh_host.specs.Commands.{steps_in, command_steps, outputs_of};
+ghost use Rattle.vh_host.specs.Named.{command_of, status_of, IsSized};
 
 use crate::check::check;
-use crate::render::{read_input, read_session, write_output};
-use crate::report::{refusal, report};
-use crate::session::parse;
-use crate::status::{Place, Status};
+use crate::render::render;
+use crate::words::{Command, read_words};
 use std::alloc::Global;
-use vh_files::{Files, Say, say_all};
-use vh_params::Classes;
+use vh_answers::{Line, Status, say_refusal};
+use vh_files::{Files, Say};
 use vh_plugin::PluginSet;
 
-/// The files of a rendering.
-#[derive(Clone, Copy)]
-struct Names<'a> {
-    session: &'a str,
-    input: &'a str,
-    output: &'a str,
-}
-
-/// A command, with its files.
-#[derive(Clone, Copy)]
-enum Command<'a> {
-    Render(Names<'a>),
-    Check(&'a str),
-}
-
-ghost use Rattle.vh_files.specs.Store.{SameElsewhere};
-ghost use Rattle.vh_params.specs.ClassList.{classes_of};
-ghost use Rattle.vh_host.specs.Answers.{Answers, RenderAnswers, CheckAnswers, ChangesOnlyOutput, Renders, RenderStops};
-ghost use Rattle.vh_host.specs.Complete.{IsUnhindered, IsDone};
-ghost use Rattle.vh_host.specs.Named.{commanded, names_of};
-ghost use Rattle.vh_host.specs.Outside.{Outside, IsRefusal, IsRefused};
-
-/// Reads the words of a command.
-fn read_words(words: &[String]) -> Option<Command<'_>>
-    ensures { commanded result ≡ command_in (map string_bytes words.now) }
-{
-    match words {
-        [command, session, input, output] => {
-            if command.as_str() == "render" {
-                Some(Command::Render(Names {
-                    session: session.as_str(),
-                    input: input.as_str(),
-                    output: output.as_str(),
-                }))
-            } else {
-                None
-            }
-        }
-        [command, session] => {
-            if command.as_str() == "check" {
-                Some(Command::Check(session.as_str()))
-            } else {
-                None
-            }
-        }
-        _ => None,
-    }
-}
-
-/// Renders a session over its input.
-fn render<F: Files, Y: Say>(
+/// Runs a command. A call of the set's `work` does nothing: the proof uses that the count is one of 64 bits.
+fn run_command<F: Files, Y: Say, S: PluginSet>(
     alloc: Global,
-    names: &Names<'_>,
+    command: &Command<'_>,
     files: &mut F,
     say: &mut Y,
+    set: &mut S,
 ) -> Result<(), Status>
-    ensures done { OnOk result (Renders (record { complete = F.complete files.old; old = F.held files.old; new = F.held files.new; reads = F.read_faults files.old; reads_now = F.read_faults files.new; writes = F.write_faults files.old; writes_now = F.write_faults files.new; said = Y.said say.old; said_now = Y.said say.new; faults = Y.faults say.old; faults_now = Y.faults say.new }) (names_of names.now)) }
-    ensures stop { IfErr result (RenderStops (record { complete = F.complete files.old; old = F.held files.old; new = F.held files.new; reads = F.read_faults files.old; reads_now = F.read_faults files.new; writes = F.write_faults files.old; writes_now = F.write_faults files.new; said = Y.said say.old; said_now = Y.said say.new; faults = Y.faults say.old; faults_now = Y.faults say.new }) (names_of names.now)) }
-    ensures others { SameElsewhere names.now.output.now (F.held files.old) (F.held files.new) }
-    ensures complete { F.complete files.new ≡ F.complete files.old }
-    ensures reads { F.read_faults files.old ≤ F.read_faults files.new }
-    ensures writes { F.write_faults files.old ≤ F.write_faults files.new }
-    ensures faults { Y.faults say.old ≤ Y.faults say.new }
+    requires sized { IsSized (command_of command.now) }
+    ensures ends { EndsUnsaid (λ calls. S.work set.new ≡ raised_by calls (S.work set.old)) (outside F.Files Y.Say files.old files.new say.old say.new)
+        (command_steps (record { infos = S.infos set.old; code = S.code set.old; class_of = S.P.Processor.class_of }) (command_of command.now)) (status_of result) }
+    ensures others { ChangesOnly (outputs_of (Some (command_of command.now))) (F.held files.old) (F.held files.new) }
+    ensures counts { KeepsCounts (outside F.Files Y.Say files.old files.new say.old say.new) }
+    ensures objects { AreEnded (S.made set.old) (S.ended set.old) (S.made set.new) (S.ended set.new) }
+    ensures infos { S.infos set.new ≡ S.infos set.old }
+    ensures codes { (class : ℕ) → S.code set.new class ≡ S.code set.old class }
 {
-    let text = read_session(alloc, files, names.session)?;
-    let asked = match parse(text.as_slice()) {
-        Ok(asked) => asked,
-        Err(fault) => return Err(Status::SessionRefused(fault)),
-    };
-    let mut input = read_input(alloc, files, names.input, asked.length)?;
-    let Ok(report) = report(alloc, &asked) else {
-        return Err(Status::Memory);
-    };
-    let Ok(mut buffer) = vec![in alloc; 0u8; 2 * asked.size as usize] else {
-        return Err(Status::Memory);
-    };
-    if write_output(
-        files,
-        names.output,
-        input.rate,
-        asked.size as usize,
-        input.frames.as_mut_slice(),
-        buffer.as_mut_slice(),
-    )
-    .is_err()
-    {
-        return Err(Status::WriteFault(Place::Output));
+    let _ = set.work();
+    match *command {
+        Command::Render(files_asked) => render(alloc, &files_asked, files, say, set),
+        Command::Check(name) => check(alloc, name, files, say, set.classes()),
     }
-    if say_all(say, report.as_slice()).is_err() {
-        return Err(Status::WriteFault(Place::Report));
-    }
-    Ok(())
 }
 
-/// Says the line of an answer that refuses, and gives the answer: itself, or `Memory` where there is
-/// none for the line.
-fn refuse<Y: Say>(alloc: Global, say: &mut Y, status: Status) -> Status
-    requires { IsRefusal status }
-    ensures said { IsRefused status (Y.said say.old) (Y.said say.new) (Y.faults say.old) (Y.faults say.new) result }
-    ensures faults { Y.faults say.old ≤ Y.faults say.new }
-{
-    let Ok(line) = refusal(alloc, &status) else {
-        return Status::Memory;
-    };
-    let _ = say_all(say, line.as_bytes());
-    status
-}
-
-/// Renders, and says the line of an answer that refuses.
-fn run_render<F: Files, Y: Say>(
+/// Runs the command that words are. Of a refusal nothing is said.
+fn run_words<F: Files, Y: Say, S: PluginSet>(
     alloc: Global,
-    names: &Names<'_>,
+    words: &[String],
     files: &mut F,
     say: &mut Y,
+    set: &mut S,
 ) -> Status
-    ensures answer { RenderAnswers (record { complete = F.complete files.old; old = F.held files.old; new = F.held files.new; reads = F.read_faults files.old; reads_now = F.read_faults files.new; writes = F.write_faults files.old; writes_now = F.write_faults files.new; said = Y.said say.old; said_now = Y.said say.new; faults = Y.faults say.old; faults_now = Y.faults say.new }) (names_of names.now) result }
-    ensures others { SameElsewhere names.now.output.now (F.held files.old) (F.held files.new) }
-    ensures complete { F.complete files.new ≡ F.complete files.old }
-    ensures reads { F.read_faults files.old ≤ F.read_faults files.new }
-    ensures writes { F.write_faults files.old ≤ F.write_faults files.new }
-    ensures faults { Y.faults say.old ≤ Y.faults say.new }
+    ensures ends { EndsUnsaid (λ calls. S.work set.new ≡ raised_by calls (S.work set.old)) (outside F.Files Y.Say files.old files.new say.old say.new)
+        (steps_in (record { infos = S.infos set.old; code = S.code set.old; class_of = S.P.Processor.class_of }) (map string_bytes words.now)) result }
+    ensures others { ChangesOnly (outputs_of (command_in (map string_bytes words.now))) (F.held files.old) (F.held files.new) }
+    ensures counts { KeepsCounts (outside F.Files Y.Say files.old files.new say.old say.new) }
+    ensures objects { AreEnded (S.made set.old) (S.ended set.old) (S.made set.new) (S.ended set.new) }
+    ensures infos { S.infos set.new ≡ S.infos set.old }
+    ensures codes { (class : ℕ) → S.code set.new class ≡ S.code set.old class }
 {
-    match render(alloc, names, files, say) {
+    let Some(command) = read_words(words) else {
+        return Status::Usage;
+    };
+    match run_command(alloc, &command, files, say, set) {
         Ok(()) => Status::Ok,
-        Err(Status::Memory) => Status::Memory,
-        Err(Status::WriteFault(Place::Report)) => Status::WriteFault(Place::Report),
-        Err(status) => refuse(alloc, say, status),
-    }
-}
-
-/// Checks a session, and says the line of an answer that refuses.
-fn run_check<F: Files, Y: Say>(
-    alloc: Global,
-    name: &str,
-    files: &mut F,
-    say: &mut Y,
-    classes: &Classes,
-) -> Status
-    ensures answer { CheckAnswers (classes_of classes.now) (record { complete = F.complete files.old; old = F.held files.old; new = F.held files.new; reads = F.read_faults files.old; reads_now = F.read_faults files.new; writes = F.write_faults files.old; writes_now = F.write_faults files.new; said = Y.said say.old; said_now = Y.said say.new; faults = Y.faults say.old; faults_now = Y.faults say.new }) name.now result }
-    ensures held { F.held files.new ≡ F.held files.old }
-    ensures complete { F.complete files.new ≡ F.complete files.old }
-    ensures reads { F.read_faults files.old ≤ F.read_faults files.new }
-    ensures writes { F.write_faults files.new ≡ F.write_faults files.old }
-    ensures faults { Y.faults say.old ≤ Y.faults say.new }
-{
-    match check(alloc, name, files, say, classes) {
-        Ok(()) => Status::Ok,
-        Err(Status::Memory) => Status::Memory,
-        Err(Status::WriteFault(Place::Report)) => Status::WriteFault(Place::Report),
-        Err(status) => refuse(alloc, say, status),
+        Err(status) => status,
     }
 }
 
 /// Runs a command, of these:
 ///
-/// - `render SESSION IN OUT` renders a session of one gain over the frames of IN, a WAV file of one channel, to
-///   OUT, and says the report.
+/// - `render SESSION IN OUT` renders a session over the frames of IN, a WAV file of the session's channels, into
+///   OUT, a WAV file of the session's bits and of IN's rate, and says the report.
+/// - `replay SESSION IN OUT JOURNAL` renders it under the entries of a journal.
 /// - `check SESSION` reads a session and says its canonical text; presets are not read.
 ///
-/// A refusal or a fault is said as one line. No file but OUT is changed, and none where the answer is
-/// a refusal.
+/// Behind the files of a rendering `block=N`, N from 1 to 8192, may stand: it cuts the rendering into blocks of N frames
+/// in place of the session's pattern, and changes no sample.
+///
+/// A refusal or a fault is said as one line. No file but OUT is changed, and none where the answer is a refusal or
+/// `Memory`. All plug-ins that were made are ended.
 pub fn run<F: Files, Y: Say, S: PluginSet>(
     alloc: Global,
     words: &[String],
@@ -183,20 +86,20 @@ pub fn run<F: Files, Y: Say, S: PluginSet>(
     say: &mut Y,
     set: &mut S,
 ) -> Status
-    ensures answer { Answers (S.infos set.old) (record { complete = F.complete files.old; old = F.held files.old; new = F.held files.new; reads = F.read_faults files.old; reads_now = F.read_faults files.new; writes = F.write_faults files.old; writes_now = F.write_faults files.new; said = Y.said say.old; said_now = Y.said say.new; faults = Y.faults say.old; faults_now = Y.faults say.new }) (map string_bytes words.now) result }
-    ensures others { ChangesOnlyOutput (F.held files.old) (F.held files.new) (map string_bytes words.now) }
-    ensures complete { F.complete files.new ≡ F.complete files.old }
-    ensures reads { F.read_faults files.old ≤ F.read_faults files.new }
-    ensures writes { F.write_faults files.old ≤ F.write_faults files.new }
-    ensures faults { Y.faults say.old ≤ Y.faults say.new }
-    ensures completes { IsUnhindered (S.infos set.old) (record { complete = F.complete files.old; old = F.held files.old; new = F.held files.new; reads = F.read_faults files.old; reads_now = F.read_faults files.new; writes = F.write_faults files.old; writes_now = F.write_faults files.new; said = Y.said say.old; said_now = Y.said say.new; faults = Y.faults say.old; faults_now = Y.faults say.new }) (map string_bytes words.now) → IsDone result }
-    ensures set { set.new ≡ set.old }
+    ensures answer { Answers (λ calls. S.work set.new ≡ raised_by calls (S.work set.old)) (outside F.Files Y.Say files.old files.new say.old say.new)
+        (steps_in (record { infos = S.infos set.old; code = S.code set.old; class_of = S.P.Processor.class_of }) (map string_bytes words.now)) result }
+    ensures others { ChangesOnly (outputs_of (command_in (map string_bytes words.now))) (F.held files.old) (F.held files.new) }
+    ensures counts { KeepsCounts (outside F.Files Y.Say files.old files.new say.old say.new) }
+    ensures completes { IsUnhindered (outside F.Files Y.Say files.old files.new say.old say.new)
+        (steps_in (record { infos = S.infos set.old; code = S.code set.old; class_of = S.P.Processor.class_of }) (map string_bytes words.now)) → IsDone result }
+    ensures objects { AreEnded (S.made set.old) (S.ended set.old) (S.made set.new) (S.ended set.new) }
+    ensures infos { S.infos set.new ≡ S.infos set.old }
+    ensures codes { (class : ℕ) → S.code set.new class ≡ S.code set.old class }
 {
-    let Some(command) = read_words(words) else {
-        return refuse(alloc, say, Status::Usage);
+    let Ok(mut line) = Line::new(alloc) else {
+        return Status::Memory;
     };
-    match command {
-        Command::Render(names) => run_render(alloc, &names, files, say),
-        Command::Check(name) => run_check(alloc, name, files, say, set.classes()),
-    }
+    let status = run_words(alloc, words, files, say, set);
+    say_refusal(&mut line, say, &status);
+    status
 }

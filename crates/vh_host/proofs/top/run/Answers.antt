@@ -1,36 +1,26 @@
-use Rattle.std.proofs.Common.{rules, ◌≡◌, ◌∙◌, List, map, Option, Some, sym, subst, Global}
+use Rattle.std.proofs.Common.{◌≡◌, ℕ, List, map}
 use Rattle.std.specs.String.{string_bytes}
-use Rattle.vh_params.specs.declared.class.ClassInfo.{ClassInfo}
-use Rattle.vh_params.specs.ClassList.{classes_of}
-use Rattle.vh_host.specs.Answers.{CheckAnswers, CommandAnswers}
-use Rattle.vh_host.specs.Complete.{IsGiven}
-use Rattle.vh_host.specs.Outside.{Outside}
-use Rattle.vh_host.specs.Words.{Command, Check, command_in}
-use Rattle.vh_host.proofs.Answered.{check_done}
+use Rattle.vh_plugin.specs.Counts.{raised_by}
+use Rattle.vh_answers.specs.Outside.{outside, voice}
+use Rattle.vh_answers.proofs.Stages.{settled, done}
+use Rattle.vh_host.specs.Known.{Known}
+use Rattle.vh_host.specs.Commands.{steps_in}
+use Rattle.vh_host.proofs.Decided.{all_decided}
 use Rattle.vh_host.proofs.top.run.Goals as goal
 
-pub returns-in-Check-clause-completes : goal.returns-in-Check-clause-completes
-returns-in-Check-clause-completes g c = λ unhindered.
-    let files = c.args.files.now in
-    let files_now = c.run_check.new.files in
-    let known = g.S.PluginSet.infos c.args.set.now in
-    let name = c.in-Check.name.now in
-    let o : Outside = record { complete = g.F.Files.complete files; old = g.F.Files.held files; new = g.F.Files.held files_now; reads = g.F.Files.read_faults files; reads_now = g.F.Files.read_faults files_now; writes = g.F.Files.write_faults files; writes_now = g.F.Files.write_faults files_now; said = g.Y.Say.said c.args.say.now; said_now = g.Y.Say.said c.run_check.new.say; faults = g.Y.Say.faults c.args.say.now; faults_now = g.Y.Say.faults c.run_check.new.say } in
-    let read : command_in (map (string_bytes {Z = Global}) c.args.words.now) ≡ Some (Check name) = search rules in
-    let both : ◌≡◌ {A = Option Command} (Some unhindered.command) (Some (Check name)) = sym unhindered.words_are ∙ read in
-    let same : unhindered.command ≡ Check name = cc in
-    let given = subst (IsGiven known o) same unhindered.given in
-    let classes : classes_of c.classes.result.now ≡ known = c.classes.ensures in
-    check_done known o name given.0 given.2.0 c.run_check.result given.1 given.2.1 unhindered.reads unhindered.faults (subst (λ (k : List ClassInfo). CheckAnswers k o name c.run_check.result) classes c.run_check.ensures.answer)
+pub returns-clause-answer : goal.returns-clause-answer
+returns-clause-answer g c =
+    let known : Known = record { infos = g.S.PluginSet.infos c.args.set.now; code = g.S.PluginSet.code c.args.set.now; class_of = g.S.P.Processor.class_of } in
+    settled (λ calls. g.S.PluginSet.work c.run_words-status.new.set ≡ raised_by calls (g.S.PluginSet.work c.args.set.now))
+    (outside g.F.Files g.Y.Say c.args.files.now c.run_words-status.new.files c.args.say.now c.run_words-status.new.say) (steps_in known (map string_bytes c.args.words.now)) c.run_words-status.result
+    (voice g.Y.Say c.say_refusal.new.say) c.run_words-status.ensures.counts.faults c.run_words-status.ensures.ends c.say_refusal.ensures.said
 
-pub returns-in-Check-clause-answer : goal.returns-in-Check-clause-answer
-returns-in-Check-clause-answer g c =
-    let files = c.args.files.now in
-    let files_now = c.run_check.new.files in
-    let known = g.S.PluginSet.infos c.args.set.now in
-    let name = c.in-Check.name.now in
-    let o : Outside = record { complete = g.F.Files.complete files; old = g.F.Files.held files; new = g.F.Files.held files_now; reads = g.F.Files.read_faults files; reads_now = g.F.Files.read_faults files_now; writes = g.F.Files.write_faults files; writes_now = g.F.Files.write_faults files_now; said = g.Y.Say.said c.args.say.now; said_now = g.Y.Say.said c.run_check.new.say; faults = g.Y.Say.faults c.args.say.now; faults_now = g.Y.Say.faults c.run_check.new.say } in
-    let read : command_in (map (string_bytes {Z = Global}) c.args.words.now) ≡ Some (Check name) = search rules in
-    let classes : classes_of c.classes.result.now ≡ known = c.classes.ensures in
-    let answer = subst (λ (k : List ClassInfo). CheckAnswers k o name c.run_check.result) classes c.run_check.ensures.answer in
-    subst (λ said. CommandAnswers known o said c.run_check.result) (sym read) answer
+pub returns-clause-completes : goal.returns-clause-completes
+returns-clause-completes g c = λ free.
+    let known : Known = record { infos = g.S.PluginSet.infos c.args.set.now; code = g.S.PluginSet.code c.args.set.now; class_of = g.S.P.Processor.class_of } in
+    let words : List (List ℕ) = map string_bytes c.args.words.now in
+    done (λ calls. g.S.PluginSet.work c.run_words-status.new.set ≡ raised_by calls (g.S.PluginSet.work c.args.set.now))
+    (outside g.F.Files g.Y.Say c.args.files.now c.run_words-status.new.files c.args.say.now c.say_refusal.new.say) (steps_in known words) c.run_words-status.result (all_decided known words) free
+    (settled (λ calls. g.S.PluginSet.work c.run_words-status.new.set ≡ raised_by calls (g.S.PluginSet.work c.args.set.now))
+    (outside g.F.Files g.Y.Say c.args.files.now c.run_words-status.new.files c.args.say.now c.run_words-status.new.say) (steps_in known words) c.run_words-status.result
+    (voice g.Y.Say c.say_refusal.new.say) c.run_words-status.ensures.counts.faults c.run_words-status.ensures.ends c.say_refusal.ensures.said)

@@ -1,0 +1,39 @@
+use Rattle.std.proofs.Common.{◌≡◌, ℕ, List, Some, sym, subst, arith}
+use Rattle.vh_params.specs.declared.class.ClassInfo.{ClassInfo}
+use Rattle.vh_plugin.specs.Counts.{raised_by}
+use Rattle.vh_answers.specs.Outside.{outside, ChangesOnly}
+use Rattle.vh_answers.specs.Steps.{EndsUnsaid}
+use Rattle.vh_answers.proofs.Stages.{recounted}
+use Rattle.vh_host.specs.declared.words.Command.{Command as Read}
+use Rattle.vh_host.specs.Commands.{command_steps, check_steps, outputs_of}
+use Rattle.vh_host.specs.Named.{command_of, status_of, IsSized}
+use Rattle.vh_host.proofs.Outcomes.{only_one, no_work}
+use Rattle.vh_host.proofs.top.run_command.Goals as goal
+
+pub render-requires-clause-size : goal.render-requires-clause-size
+render-requires-clause-size g c κs within = subst (λ (command : Read). IsSized (command_of command)) c.in-Render.is c.requires.sized
+
+-- src/top.rt:22:1
+pub returns-in-Render-clause-ends : goal.returns-in-Render-clause-ends
+returns-in-Render-clause-ends g c =
+    subst (λ (command : Read). EndsUnsaid (λ calls. g.S.PluginSet.work c.render.new.set ≡ raised_by calls (g.S.PluginSet.work c.args.set.now)) (outside g.F.Files g.Y.Say c.args.files.now c.render.new.files c.args.say.now c.render.new.say)
+    (command_steps (record { infos = g.S.PluginSet.infos c.args.set.now; code = g.S.PluginSet.code c.args.set.now; class_of = g.S.P.Processor.class_of }) (command_of command)) (status_of c.render.result))
+    (sym c.in-Render.is) c.render.ensures.ends
+
+-- src/top.rt:22:1
+pub returns-in-Render-clause-others : goal.returns-in-Render-clause-others
+returns-in-Render-clause-others g c =
+    subst (λ (command : Read). ChangesOnly (outputs_of (Some (command_of command))) (g.F.Files.held c.args.files.now) (g.F.Files.held c.render.new.files)) (sym c.in-Render.is)
+    (only_one (g.F.Files.held c.args.files.now) (g.F.Files.held c.render.new.files) c.in-Render.files_asked.output.now c.render.ensures.others)
+
+-- src/top.rt:22:1
+pub returns-in-Check-clause-ends : goal.returns-in-Check-clause-ends
+returns-in-Check-clause-ends g c =
+    let o = outside g.F.Files g.Y.Say c.args.files.now c.check.new.files c.args.say.now c.check.new.say in
+    let work : ℕ = g.S.PluginSet.work c.args.set.now in
+    subst (λ (command : Read). EndsUnsaid (λ calls. g.S.PluginSet.work c.args.set.now ≡ raised_by calls (g.S.PluginSet.work c.args.set.now)) (outside g.F.Files g.Y.Say c.args.files.now c.check.new.files c.args.say.now c.check.new.say)
+    (command_steps (record { infos = g.S.PluginSet.infos c.args.set.now; code = g.S.PluginSet.code c.args.set.now; class_of = g.S.P.Processor.class_of }) (command_of command)) (status_of c.check.result))
+    (sym c.in-Check.is)
+    (recounted _ (λ calls. calls ≡ 0) (λ calls. work ≡ raised_by calls work) o (check_steps (g.S.PluginSet.infos c.args.set.now) c.in-Check.name.now) (status_of c.check.result)
+    (λ calls none. no_work calls work (omega (arith, c.work.type_inv, c.work.ensures)) none)
+    (subst (λ (infos : List ClassInfo). EndsUnsaid (λ calls. calls ≡ 0) o (check_steps infos c.in-Check.name.now) (status_of c.check.result)) c.classes.ensures c.check.ensures.ends))

@@ -1,0 +1,106 @@
+//! The words of a command.
+
+ghost use Rattle.std.specs.Prelude.{◌≡◌, ◌≤◌, map};
+ghost use Rattle.std.specs.String.{string_bytes};
+ghost use Rattle.vh_host.specs.Words.{command_in, render_in, replay_in, check_in, behind_files, block_in};
+ghost use Rattle.vh_host.specs.Named.{commanded};
+
+use vh_text::number;
+
+/// What is rendered, and into which file.
+#[derive(Clone, Copy)]
+pub(crate) struct Render<'a> {
+    pub(crate) session: &'a str,
+    pub(crate) input: &'a str,
+    pub(crate) output: &'a str,
+    /// What editors did, where a rendering is replayed.
+    pub(crate) journal: Option<&'a str>,
+    /// The frames of a block, 1 to 8192, in place of the session's pattern.
+    pub(crate) block: Option<u32>,
+}
+
+/// A command.
+#[derive(Clone, Copy)]
+pub(crate) enum Command<'a> {
+    Render(Render<'a>),
+    /// And the session's file.
+    Check(&'a str),
+}
+
+/// `block=N`, with N from 1 to 8192.
+fn block(word: &[u8]) -> Option<u32>
+    ensures { result ≡ block_in word.now }
+{
+    let size = number(word.strip_prefix(b"block=".as_slice())?)?;
+    if (1..=8192).contains(&size) {
+        Some(size)
+    } else {
+        None
+    }
+}
+
+/// The words behind the files of a rendering: none, or one `block=N`.
+fn read_block(words: &[String]) -> Option<Option<u32>>
+    ensures { result ≡ behind_files (map string_bytes words.now) }
+{
+    match words {
+        [] => Some(None),
+        [word] => Some(Some(block(word.as_bytes())?)),
+        _ => None,
+    }
+}
+
+/// `SESSION IN OUT`.
+fn read_render(words: &[String]) -> Option<Command<'_>>
+    ensures { commanded result ≡ render_in (map string_bytes words.now) }
+{
+    let [session, input, output, rest @ ..] = words else {
+        return None;
+    };
+    Some(Command::Render(Render {
+        session: session.as_str(),
+        input: input.as_str(),
+        output: output.as_str(),
+        journal: None,
+        block: read_block(rest)?,
+    }))
+}
+
+/// `SESSION IN OUT JOURNAL`.
+fn read_replay(words: &[String]) -> Option<Command<'_>>
+    ensures { commanded result ≡ replay_in (map string_bytes words.now) }
+{
+    let [session, input, output, journal, rest @ ..] = words else {
+        return None;
+    };
+    Some(Command::Render(Render {
+        session: session.as_str(),
+        input: input.as_str(),
+        output: output.as_str(),
+        journal: Some(journal.as_str()),
+        block: read_block(rest)?,
+    }))
+}
+
+/// `SESSION`.
+fn read_check(words: &[String]) -> Option<Command<'_>>
+    ensures { commanded result ≡ check_in (map string_bytes words.now) }
+{
+    match words {
+        [session] => Some(Command::Check(session.as_str())),
+        _ => None,
+    }
+}
+
+/// Reads the words of a command.
+pub(crate) fn read_words(words: &[String]) -> Option<Command<'_>>
+    ensures { commanded result ≡ command_in (map string_bytes words.now) }
+{
+    let (first, rest) = words.split_first()?;
+    match first.as_str() {
+        "render" => read_render(rest),
+        "replay" => read_replay(rest),
+        "check" => read_check(rest),
+        _ => None,
+    }
+}
