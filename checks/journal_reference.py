@@ -5,12 +5,11 @@ import re
 MOST_BYTES = 1_048_576
 MOST_ENTRIES = 4096
 ONE = 2**24
-KINDS = [
+KINDS = [  # by number, from 1
     "BadHeader", "BadLine", "TooMany", "SampleOver", "SampleFalls", "UnknownNode", "UnknownParam", "ReadOnlyParam",
     "SeqWrong", "NotOpen", "AlreadyOpen", "NoClose", "TooLong",
 ]
-NODES = [b"a", b"b_2"]  # the nodes of journal_check
-PARAMS = {0: False, 7: False, 9: True}  # their parameters, and whether each is only read
+CHECKED = dict.fromkeys([b"a", b"b_2"], {0: False, 7: False, 9: True})  # journal_check's nodes, each with its parameters, and whether each is only read
 FORMS = [
     (rb"begin", 1, 1),
     (rb"perform", 2, 2),
@@ -51,8 +50,8 @@ def fields_of(line):
     return None
 
 
-def rules(entries, length, fields):
-    """Each rule of an entry's line that is broken behind these entries, in the order of the kinds."""
+def rules(entries, length, fields, nodes=CHECKED):
+    """Each rule of an entry's line, whether it is broken behind these entries, and its kind, in the order of the kinds."""
     sample, editor, seq, verb, name, numbers = fields
     mine = [entry for entry in entries if entry[1] == editor]
     on_parameter = verb != b"tell"
@@ -61,9 +60,10 @@ def rules(entries, length, fields):
     yield len(entries) >= MOST_ENTRIES, "TooMany"
     yield sample > length, "SampleOver"
     yield bool(entries) and sample < entries[-1][0], "SampleFalls"
-    yield name not in NODES, "UnknownNode"
-    yield on_parameter and numbers[0] not in PARAMS, "UnknownParam"
-    yield on_parameter and PARAMS.get(numbers[0]), "ReadOnlyParam"
+    params = nodes.get(name, {})
+    yield name not in nodes, "UnknownNode"
+    yield on_parameter and numbers[0] not in params, "UnknownParam"
+    yield on_parameter and params.get(numbers[0]), "ReadOnlyParam"
     yield seq != len(mine), f"SeqWrong({len(mine)})"
     yield verb in (b"perform", b"end") and not is_open, "NotOpen"
     yield verb == b"begin" and is_open, "AlreadyOpen"
@@ -77,7 +77,7 @@ def lines_of(text):
     return [part[:-1] if part.endswith(b"\r") else part for part in parts]
 
 
-def entries_of(text, length):
+def entries_of(text, length, nodes=CHECKED):
     """The entries of a journal's text, or its first fault."""
     if len(text) > MOST_BYTES:
         raise Fault(0, "TooLong")
@@ -93,7 +93,7 @@ def entries_of(text, length):
             if place < len(lines):
                 raise Fault(place + 1, "BadLine")
             return entries
-        for broken, kind in rules(entries, length, fields):
+        for broken, kind in rules(entries, length, fields, nodes):
             if broken:
                 raise Fault(place, kind)
         entries.append(fields)

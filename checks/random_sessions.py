@@ -1,17 +1,17 @@
 """Writes random sessions, the same in each run, and compares what `check` says of each with session_reference."""
 import pathlib
 import random
-import subprocess
 import sys
 import tempfile
 
-from session_reference import BUILT_IN, KINDS, MOST_BYTES, ONE, Fault, Session, answer
+from classes_reference import ONE, PARAMETERS
+from program import run
+from session_reference import KINDS, MOST_BYTES, Fault, Session, answer
 from tally import Tally
 
-PROGRAM = str(pathlib.Path(__file__).resolve().parent.parent / "vsthost")
 SESSIONS = 600
 LEAST = 5  # how often each kind of fault has to come
-CLASSES = [kind.decode() for kind in BUILT_IN] * 4 + ["gains", "Gain", "in"]
+CLASSES = [kind.decode() for kind in PARAMETERS] * 4 + ["gains", "Gain", "in"]
 NAMES = ["a", "b", "c", "d_4", "e" * 32]
 ODD_WORDS = ["in", "out", "aux", "A", "9a", "_a", "f" * 33, "#", "gain", "-1", "1x", "16777217", "4294967295", "4294967296", "0000000007", "00000000007"]
 HEADERS = [b"vsthost session 1"] * 60 + [b"", b"# a", b"vsthost session 2", b"vsthost session 01", b" vsthost  session 1 "]
@@ -139,9 +139,8 @@ with tempfile.TemporaryDirectory() as folder:
     for count in range(SESSIONS):
         written = text()
         (pathlib.Path(folder) / "s").write_bytes(written)
-        done = subprocess.run([PROGRAM, "check", "s"], cwd=folder, stdin=subprocess.DEVNULL, capture_output=True)
         wanted = answer(written)
-        TALLY.expect(f"random session {count}", (done.returncode, done.stdout.decode()), wanted)
+        TALLY.expect(f"random session {count}", run(folder, ["check", "s"]), wanted)
         if wanted[0] == 2:
             CAME[int(wanted[1].split()[3])] += 1
 for kind, count in CAME.items():

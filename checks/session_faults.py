@@ -1,13 +1,12 @@
 """Checks the first fault of sessions, row by row: what the built program says of each, and what session_reference does."""
 import pathlib
-import subprocess
 import sys
 import tempfile
 
+from program import run
 from session_reference import KINDS, answer
 from tally import Tally
 
-PROGRAM = str(pathlib.Path(__file__).resolve().parent.parent / "vsthost")
 SETTINGS = ["vsthost session 1", "length 8", "channels 1", "bits 16", "pattern 64"]
 HEAD = SETTINGS + ["node g gain", "node e gate", "node m meter", "node d delay"]
 TALLY = Tally()
@@ -136,8 +135,7 @@ LIMITS = [  # lines that stand, and one that is too many
 def expect(name, lines, want):
     text = "\n".join(lines).encode()
     (FOLDER / "s").write_bytes(text)
-    done = subprocess.run([PROGRAM, "check", "s"], cwd=FOLDER, stdin=subprocess.DEVNULL, capture_output=True)
-    TALLY.expect(name, (done.returncode, done.stdout.decode()), want)
+    TALLY.expect(name, run(FOLDER, ["check", "s"]), want)
     TALLY.expect(f"{name}, by the second reader", answer(text), want)
 
 

@@ -1,19 +1,8 @@
 """Reads sessions as docs/formats.md tells, line by line and by none of the program's means, so that what `check` says
 can be compared with it."""
+from classes_reference import ONE, PARAMETERS, WITH_AUX
 
-ONE = 1 << 24
 MOST_BYTES = 33_554_432
-BUILT_IN = {  # the ids of each class's parameters, and whether it has an aux bus
-    b"gain": (range(2), False),
-    b"balance": (range(1), False),
-    b"delay": (range(3), False),
-    b"onepole": (range(1), False),
-    b"crusher": (range(2), False),
-    b"gate": (range(3), True),
-    b"meter": (range(2), False),
-    b"tap": (range(1), False),
-}
-READ_ONLY = {b"meter"}
 KINDS = ["BadHeader", "BadByte", "UnknownWord", "BadNumber", "BadName", "Missing", "Extra", "Repeated", "DuplicateNode", "UnknownNode", "UnknownClass", "UnknownParam", "ReadOnlyParam", "BadWire", "BadLane", "BadEditor", "TooMany", "NoLine", "Cycle", "TooLong"]
 
 
@@ -22,6 +11,10 @@ class Fault(Exception):
 
     def number(self):
         return KINDS.index(self.args[0]) + 1
+
+
+class Refused(Exception):
+    """The line and the number of a text's first fault."""
 
 
 def need(holds, kind):
@@ -77,8 +70,8 @@ class Session:
     def parameter(self, name, word):
         node, identifier = self.node(name), number(word)
         kind = self.nodes[name][1]
-        need(identifier in BUILT_IN[kind][0], "UnknownParam")
-        need(kind not in READ_ONLY, "ReadOnlyParam")
+        need(identifier < len(PARAMETERS[kind]), "UnknownParam")
+        need(not PARAMETERS[kind][identifier].read_only, "ReadOnlyParam")
         return node, identifier
 
     def setting(self, at, name, *words):
@@ -90,7 +83,7 @@ class Session:
 
     def node_line(self, at, _, name, kind):
         need(is_name(name), "BadName")
-        need(kind in BUILT_IN, "UnknownClass")
+        need(kind in PARAMETERS, "UnknownClass")
         need(name not in self.nodes, "DuplicateNode")
         need(len(self.nodes) < 64, "TooMany")
         self.nodes[name] = (len(self.nodes), kind, at)
@@ -113,7 +106,7 @@ class Session:
         if target != b"out":
             self.node(target)
         need(aux in ((), (b"aux",)), "BadWire")
-        need(not aux or (target != b"out" and BUILT_IN[self.nodes[target][1]][1]), "BadWire")
+        need(not aux or (target != b"out" and self.nodes[target][1] in WITH_AUX), "BadWire")
         need((source, target, *aux) not in self.wires, "BadWire")
         need(len(self.wires) < 256, "TooMany")
         self.wires.append((source, target, *aux))
@@ -198,28 +191,38 @@ LINES = {  # the least and most words behind the first, and what reads them
 }
 
 
-def refused(line, fault):
-    return 2, f"refused session {line} {fault.number()}\n"
-
-
-def answer(text):
-    """The status of `check` over this text, and what it says."""
-    if len(text) > MOST_BYTES:
-        return refused(0, Fault("TooLong"))
+def lines_of(text):
+    """The lines of a text, without their ends."""
     lines = text.split(b"\n")
     if not lines[-1]:
         lines.pop()
-    lines = [line.removesuffix(b"\r") for line in lines]
+    return [line.removesuffix(b"\r") for line in lines]
+
+
+def read(text):
+    """The session that a text says."""
+    if len(text) > MOST_BYTES:
+        raise Refused(0, Fault("TooLong").number())
+    lines = lines_of(text)
     if not lines or words_of(lines[0]) != [b"vsthost", b"session", b"1"]:
-        return refused(1, Fault("BadHeader"))
+        raise Refused(1, Fault("BadHeader").number())
     session = Session()
     for at, line in enumerate(lines[1:], 2):
         try:
             session.read_line(line, at)
         except Fault as fault:
-            return refused(at, fault)
+            raise Refused(at, fault.number()) from None
     if len(session.once) < 4:
-        return refused(len(lines) + 1, Fault("NoLine"))
+        raise Refused(len(lines) + 1, Fault("NoLine").number())
     if session.cycle() is not None:
-        return refused(session.cycle(), Fault("Cycle"))
-    return 0, session.canonical()
+        raise Refused(session.cycle(), Fault("Cycle").number())
+    return session
+
+
+def answer(text):
+    """The status of `check` over this text, and what it says."""
+    try:
+        return 0, read(text).canonical()
+    except Refused as refused:
+        line, kind = refused.args
+        return 2, f"refused session {line} {kind}\n"
