@@ -6,3 +6,4 @@ pub mod Channels
 pub mod Numbers
 pub mod ReadBack
 pub mod Held
+pub mod InMemory

@@ -2,6 +2,8 @@ pub mod Chunks
 pub mod Judged
 pub mod Samples
 pub mod Frames
+pub mod Streams
+pub mod InMemory
 pub mod Heads
 pub mod Text
 pub mod Laws
