@@ -17,12 +17,6 @@ use vh_params::{Command, NodeTable, Word};
 
 const BEGIN: Word = Word::Edit(Begin { node: 0, id: 1 });
 
-const PERFORM: Word = Word::Edit(Perform {
-    node: 0,
-    id: 1,
-    value: 5,
-});
-
 const END: Word = Word::Edit(End { node: 0, id: 1 });
 
 /// An inbox of two desks.
@@ -92,45 +86,21 @@ fn full_inbox_leaves_the_table(rt: HostRuntime) -> Result<(), Fail> {
     let nodes = one_node(rt.alloc()).expect(&rt, "there is memory");
     let (mut desk, _second, mut drain) = two_desks(&rt, rt.alloc(), 1, [2, 0], &nodes)?;
     let mut journal: Vec<Entry> = Vec::with_capacity(rt.alloc(), 2)?;
-    accept(&rt, &nodes, &mut desk, &[BEGIN]);
+    // holds, drops and waits need no room
+    let words = [Word::Hold(0), Word::Unhold(0), Word::Wait(3), BEGIN];
+    accept(&rt, &nodes, &mut desk, &words);
     assert_eq!(rt;
         perform(&rt, &nodes, &mut desk, END),
         Err(DeskRefused::Full)
     );
-    // the gesture is open still, and a hold needs no room
+    // the gesture is open still
     assert_eq!(rt;
         perform(&rt, &nodes, &mut desk, BEGIN),
         Err(DeskRefused::Gesture(GestureFault::AlreadyOpen))
     );
-    accept(&rt, &nodes, &mut desk, &[Word::Hold(0)]);
-    assert_eq!(rt; desk.refused(), 1);
     drain.take_all(&rt, 0, &mut journal);
     accept(&rt, &nodes, &mut desk, &[END]);
-    assert!(rt; !desk.has_room());
-    Ok(())
-}
-
-#[test]
-fn holds_drops_and_waits_put_nothing(rt: HostRuntime) -> Result<(), Fail> {
-    let nodes = one_node(rt.alloc()).expect(&rt, "there is memory");
-    let (mut desk, _second, mut drain) = two_desks(&rt, rt.alloc(), 4, [1, 0], &nodes)?;
-    let words = [
-        Word::Hold(0),
-        Word::Unhold(0),
-        Word::Wait(3),
-        Word::Unhold(0),
-    ];
-    accept(&rt, &nodes, &mut desk, &words);
-    let no_reference = Err(DeskRefused::Gesture(GestureFault::NoReference));
-    assert_eq!(rt;
-        perform(&rt, &nodes, &mut desk, Word::Unhold(0)),
-        no_reference
-    );
-    assert_eq!(rt; perform(&rt, &nodes, &mut desk, BEGIN), no_reference);
-    let mut journal: Vec<Entry> = Vec::with_capacity(rt.alloc(), 4)?;
-    drain.take_all(&rt, 7, &mut journal);
-    assert!(rt; journal.is_empty());
-    assert_eq!(rt; drain.gather(desk), 2);
+    assert_eq!(rt; drain.gather(desk), 1);
     Ok(())
 }
 
@@ -138,47 +108,19 @@ fn holds_drops_and_waits_put_nothing(rt: HostRuntime) -> Result<(), Fail> {
 #[tactic(auto, using(crate::proofs::Rooms::up_to_later))]
 fn entries_come_oldest_first(rt: HostRuntime) -> Result<(), Fail> {
     let nodes = one_node(rt.alloc()).expect(&rt, "there is memory");
-    let (mut first, mut second, mut drain) = two_desks(&rt, rt.alloc(), 8, [3, 2], &nodes)?;
-    let mut journal: Vec<Entry> = Vec::with_capacity(rt.alloc(), 8)?;
-    accept(&rt, &nodes, &mut first, &[BEGIN]);
-    let not_open = Err(DeskRefused::Gesture(GestureFault::NotOpen));
-    assert_eq!(rt; perform(&rt, &nodes, &mut second, PERFORM), not_open);
+    let (mut first, mut second, mut drain) = two_desks(&rt, rt.alloc(), 8, [1, 2], &nodes)?;
+    let mut journal: Vec<Entry> = Vec::with_capacity(rt.alloc(), 3)?;
     accept(&rt, &nodes, &mut second, &[BEGIN]);
-    accept(&rt, &nodes, &mut first, &[PERFORM]);
+    accept(&rt, &nodes, &mut first, &[BEGIN]);
     drain.take_all(&rt, 3, &mut journal);
-    accept(&rt, &nodes, &mut first, &[END]);
     accept(&rt, &nodes, &mut second, &[END]);
-    assert_eq!(rt; (drain.gather(first), drain.gather(second)), (0, 1));
     drain.take_all(&rt, 9, &mut journal);
-    let want = [
-        (3, 0, 0, BEGIN),
-        (3, 1, 0, BEGIN),
-        (3, 0, 1, PERFORM),
-        (9, 0, 2, END),
-        (9, 1, 1, END),
-    ];
+    let want = [(3, 1, 0, BEGIN), (3, 0, 0, BEGIN), (9, 1, 1, END)];
     assert_eq!(rt; journal.len(), want.len());
     for (entry, wanted) in journal.iter().zip(&want) {
         let word = Word::Edit(entry.command);
         assert_eq!(rt; (entry.sample, entry.editor, entry.seq, word), *wanted);
     }
-    Ok(())
-}
-
-#[test]
-fn spare_room_stops_a_taking(rt: HostRuntime) -> Result<(), Fail> {
-    let nodes = one_node(rt.alloc()).expect(&rt, "there is memory");
-    let (mut desk, _second, mut drain) = two_desks(&rt, rt.alloc(), 4, [3, 0], &nodes)?;
-    accept(&rt, &nodes, &mut desk, &[BEGIN, PERFORM, END]);
-    let mut journal: Vec<Entry> = Vec::with_capacity(rt.alloc(), 2)?;
-    drain.take_all(&rt, 0, &mut journal);
-    assert_eq!(rt; journal.len(), 2);
-    drain.take_all(&rt, 0, &mut journal);
-    assert_eq!(rt; journal.len(), 2);
-    journal.reserve(1)?;
-    drain.take_all(&rt, 0, &mut journal);
-    assert_eq!(rt; journal.len(), 3);
-    assert_eq!(rt; Word::Edit(journal[2].command), END);
     Ok(())
 }
 

@@ -7,6 +7,3 @@ pub mod laws;
 
 pub use fault::GestureFault;
 pub use gestures::Gestures;
-
-#[cfg(test)]
-mod tests;

@@ -1,8 +1,8 @@
 mod Inverts
 mod Named
 mod Several
-mod Tracked
-mod Accepted
+pub mod Tracked
+pub mod Accepted
 mod Names
 mod Sizes
 mod ReadsBack

@@ -11,6 +11,3 @@ mod standing;
 pub use canonical::print;
 pub use fault::{JournalFault, JournalKind};
 pub use reader::{JOURNAL_LIMIT, read};
-
-#[cfg(test)]
-mod tests;

@@ -13,6 +13,3 @@ mod touch;
 
 pub use legal::is_legal;
 pub use parameter::value;
-
-#[cfg(test)]
-mod tests;

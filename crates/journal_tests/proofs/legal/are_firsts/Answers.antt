@@ -3,7 +3,7 @@ use Rattle.std.proofs.lemmas.Bool.{eqb-true}
 use Rattle.std.proofs.lemmas.List.{take_all}
 use Rattle.vh_params.specs.Nodes.{nodes_of}
 use Rattle.vh_legal.specs.Values.{param_count}
-use Rattle.vh_legal.proofs.tests.are_firsts.Goals as goal
+use Rattle.journal_tests.proofs.legal.are_firsts.Goals as goal
 
 pub returns : goal.returns
 returns c holds = record {
