@@ -14,6 +14,7 @@ use Rattle.vh_counted.specs.Held.{value_of_opened, object_of_opened, numbers_of_
 use Rattle.vh_counted.specs.declared.numbers.Numbers.{Numbers}
 use Rattle.vh_counted.specs.declared.object.Object.{Object}
 use Rattle.vh_params.specs.declared.class.ClassInfo.{ClassInfo}
+use Rattle.vh_params.specs.declared.param.ParamInfo.{ParamInfo}
 use Rattle.vh_params.specs.Nodes.{Node, node_at, nodes_of, no_node}
 use Rattle.vh_plugin.specs.Class.{Class, State, Param, param_of}
 use Rattle.vh_session.specs.declared.session.Session.{Session}
@@ -28,8 +29,11 @@ use Rattle.vh_engine.specs.declared.parts.Parts.{Parts}
 use Rattle.vh_engine.specs.Parts.{AreParts}
 use Rattle.vh_engine.specs.Staged.{of_all, holders_of}
 use Rattle.vh_instance.specs.declared.band.Band.{Band}
-use Rattle.vh_instance.specs.Band.{ProcessorMeaning, ControllerMeaning, Plan, IsBand, code_at, class_at, by_node, has_side, is_node, objects_of}
-use Rattle.vh_instance.specs.Firsts.{first_value, firsts_at}
+use Rattle.vh_instance.specs.Plan.{Plan, plain_plan, code_at, class_at}
+use Rattle.vh_instance.specs.Band.{ProcessorMeaning, ControllerMeaning, IsBand, by_node, has_side, is_node, objects_of}
+use Rattle.vh_instance.specs.Firsts.{first_value, firsts_at, plain_at}
+use Rattle.vh_instance.specs.Laws.{BeginPlain}
+use Rattle.vh_instance.proofs.Plain.{plain_begins}
 use Rattle.vh_instance.specs.Seats.{Seat, processor_seat, AreHeld}
 use Rattle.engine_part.specs.declared.band.Rest.{Rest}
 use Rattle.engine_part.specs.Whole.{IsWhole}
@@ -93,9 +97,12 @@ meant_long meant processors = length-map processors (λ processor. meant (value_
 
 -- a band of a session, and the classes of its nodes
 module _ {P C : Type 0} (processing : ProcessorMeaning P) (controlling : ControllerMeaning C) (class_of : ℕ → Class) (infos : List ClassInfo) (code_of : ℕ → ℕ) (session : Session) (max : ℕ) (band : Band P C)
-    (is : IsBand processing controlling (record { content = content_of session; infos = infos; code = code_of; class_of = class_of; max = max }) band) where
+    (is : IsBand processing controlling (plain_plan infos code_of class_of (content_of session) max) band) where
   abbrev plan : Plan
-  plan = record { content = content_of session; infos = infos; code = code_of; class_of = class_of; max = max }
+  plan = plain_plan infos code_of class_of (content_of session) max
+
+  begins : BeginPlain plan
+  begins = plain_begins processing controlling infos code_of class_of session max band is
 
   as_many : length band.processors.items ≡ length (nodes_of session.nodes)
   as_many = sym (meant_long processing.code band.processors.items) ∙ ap length is.components.codes ∙ length-map-range_with_len (code_at plan) 0 (length (nodes_of session.nodes))
@@ -106,17 +113,17 @@ module _ {P C : Type 0} (processing : ProcessorMeaning P) (controlling : Control
   params_are : (node c : ℕ) → node < length (nodes_of session.nodes) → (class_of (slice_index_or (of_all processing.code band.processors.items) node c)).params ≡ map param_of (node_at (nodes_of session.nodes) node).params
   params_are node c lt = ap (λ (code : ℕ). (class_of code).params) (code_is node c lt) ∙ (is.suited node lt).params
 
-  firsts_long : (node : ℕ) → length (firsts_at (content_of session) node) ≡ length (node_at (nodes_of session.nodes) node).params
-  firsts_long node = length-map (node_at (nodes_of session.nodes) node).params (first_value (content_of session).firsts node)
+  firsts_long : (node : ℕ) → length (plain_at (content_of session) node) ≡ length (node_at (nodes_of session.nodes) node).params
+  firsts_long node = length-map (node_at (nodes_of session.nodes) node).params (λ (param : ParamInfo). first_value (content_of session).firsts node (param_of param) param.first)
 
   firsts_are : (node : ℕ) → node < length (nodes_of session.nodes)
-      → slice_index_or (values_by_node class_of (of_all processing.code band.processors.items) band.first.items) node [] ≡ firsts_at (content_of session) node
+      → slice_index_or (values_by_node class_of (of_all processing.code band.processors.items) band.first.items) node [] ≡ plain_at (content_of session) node
   firsts_are node lt =
       let codes = of_all processing.code band.processors.items in
-      let of = firsts_at (content_of session) in
+      let of = plain_at (content_of session) in
       let counted : length (nodes_of session.nodes) ≡ length codes = sym (meant_long processing.code band.processors.items ∙ as_many) in
       let here : 0 + node ≡ node = omega arith in
-      ap (λ (l : List ℕ). slice_index_or (values_by_node class_of codes l) node []) (is.first ∙ ap (λ (n : ℕ). flat_map of (range_with_len 0 n)) counted)
+      ap (λ (l : List ℕ). slice_index_or (values_by_node class_of codes l) node []) (is.first ∙ begins.first ∙ ap (λ (n : ℕ). flat_map of (range_with_len 0 n)) counted)
       ∙ flat_node class_of codes of 0 node (λ k less.
       let within : k < length (nodes_of session.nodes) = omega (arith, less, counted) in
       let params = (node_at (nodes_of session.nodes) k).params in
@@ -134,9 +141,9 @@ module _ {P C : Type 0} (processing : ProcessorMeaning P) (controlling : Control
       let many = as_many in
       record {
         long = many;
-        flat = ap length is.first ∙ flat_long (λ (n : Node). length n.params) nodes (firsts_at (content_of session)) 0 (λ k d lt.
+        flat = ap length (is.first ∙ begins.first) ∙ flat_long (λ (n : Node). length n.params) nodes (plain_at (content_of session)) 0 (λ k d lt.
             let here : 0 + k ≡ k = omega arith in
-            ap (λ (n : ℕ). length (firsts_at (content_of session) n)) here ∙ firsts_long k ∙ ap (λ (n : Node). length n.params) (get_or_default nodes k no_node d lt));
+            ap (λ (n : ℕ). length (plain_at (content_of session) n)) here ∙ firsts_long k ∙ ap (λ (n : Node). length n.params) (get_or_default nodes k no_node d lt));
         each = λ node c p s less.
             let lt : node < count = omega (arith, less, many) in
             let phases = meant_long processing.phase processors in
@@ -147,7 +154,7 @@ module _ {P C : Type 0} (processing : ProcessorMeaning P) (controlling : Control
             record {
               params = params_are node c lt;
               starts = at_node (of_all processing.state processors) (λ (n : ℕ). (class_at plan n).start) count node [] is.components.states lt ∙ ap (λ (code : ℕ). (class_of code).start) (sym (code_is node c lt));
-              first = at_node (of_all processing.values processors) (firsts_at (content_of session)) count node [] is.components.values lt ∙ sym (firsts_are node lt);
+              first = at_node (of_all processing.values processors) (firsts_at plan) count node [] is.components.values lt ∙ begins.values node lt ∙ sym (firsts_are node lt);
               phase_is = is.components.phases node p (omega (arith, less, phases));
               channels_are = set.channels;
               most = omega (arith, most);

@@ -11,7 +11,7 @@ ghost use Rattle.engine_part.specs.Whole.{IsWhole};
 use std::alloc::{AllocError, Global};
 use vh_counted::{Counted, Holder, Opened};
 use vh_engine::Parts;
-use vh_instance::{Band, make, tear_down};
+use vh_instance::{Band, make, no_presets, tear_down};
 use vh_plugin::PluginSet;
 use vh_session::Session;
 
@@ -23,7 +23,7 @@ pub(crate) struct Rest<P, C> {
     holders: Vec<Vec<Holder<C>>>,
 }
 
-/// Makes the instances of a session, for blocks of at most `size` frames, 1 to 8192.
+/// Makes the instances of a session without its presets, for blocks of at most `size` frames, 1 to 8192.
 pub(crate) fn open<S: PluginSet>(
     alloc: Global,
     set: &mut S,
@@ -37,6 +37,10 @@ pub(crate) fn open<S: PluginSet>(
     ensures session { IfOk result (λ made. made.0.session ≡ session) }
     ensures whole { IfOk result (λ made. IsWhole made.0.processors.items made.1) }
 {
+    let presets = no_presets(alloc, session.nodes.len())?;
+    let Ok(band) = make(alloc, set, &session, &presets, size) else {
+        return Err(AllocError);
+    };
     let Band {
         components,
         controllers,
@@ -44,7 +48,7 @@ pub(crate) fn open<S: PluginSet>(
         edits,
         holders,
         first,
-    } = make(alloc, set, &session, size)?;
+    } = band;
     let parts = Parts {
         session,
         processors,

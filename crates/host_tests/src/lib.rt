@@ -9,4 +9,6 @@ mod faults;
 #[cfg(test)]
 mod files;
 #[cfg(test)]
+mod presets;
+#[cfg(test)]
 mod stores;

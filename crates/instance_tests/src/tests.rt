@@ -1,9 +1,12 @@
+mod loads;
 mod looks;
 mod sets;
 
+use self::loads::{load, rows};
 use self::looks::look_at_band;
 use self::sets::{session_text, tested_set};
 use std::test::Fail;
+use vh_builtin::BuiltIn;
 use vh_instance::laws;
 use vh_plugin::PluginSet;
 
@@ -40,5 +43,21 @@ fn bands_are_made_and_ended(rt: HostRuntime) -> Result<(), Fail> {
     }
     laws::raised_by_sum();
     laws::undone_is_even();
+    Ok(())
+}
+
+#[test]
+fn presets_are_loaded_under_param_lines_or_refused_by_node(rt: HostRuntime) -> Result<(), Fail> {
+    let alloc = rt.alloc();
+    for row in rows() {
+        let mut set = BuiltIn::new(alloc)?;
+        let answer = load(alloc, &mut set, &row);
+        assert_eq!(rt; set.made(), set.ended());
+        assert_eq!(rt; answer?, row.answer);
+        assert_eq!(rt; set.work(), 0);
+    }
+    laws::without_preset();
+    laws::without_presets();
+    laws::line_over_preset();
     Ok(())
 }

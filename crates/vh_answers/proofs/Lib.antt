@@ -1,3 +1,4 @@
 mod Told
 mod Reports
 pub mod Stages
+pub mod Each

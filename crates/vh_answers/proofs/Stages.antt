@@ -1,14 +1,12 @@
-use Rattle.std.proofs.Common.{◌≡◌, ◌≢◌, ℕ, ◌+◌, ◌^◌, ◌≤◌, ◌<◌, ◌-◌, min, Bool, List, [], ◌∷◌, take, length, get_or, Option, Some, None, ◌⊎◌, inl, inr, ⊎_elim, refl, sym, ap, subst, ◌∙◌, arith}
+use Rattle.std.proofs.Common.{◌≡◌, ℕ, ◌+◌, ◌^◌, ◌≤◌, ◌<◌, ◌-◌, min, Bool, List, [], ◌∷◌, take, length, get_or, Option, Some, None, ◌⊎◌, inl, inr, ⊎_elim, sym, ap, subst, ◌∙◌, arith}
 use Rattle.std.specs.Prelude.{All, ⊤}
 use Rattle.vh_files.specs.Causes.{Rose}
-use Rattle.vh_files.specs.Store.{Held, told, Lacks, HasNow, SaysMore, SaysInPart}
+use Rattle.vh_files.specs.Store.{told, Lacks, HasNow, SaysMore, SaysInPart}
 use Rattle.vh_answers.specs.declared.status.Place.{Place}
-use Rattle.vh_answers.specs.declared.status.Place.TheVariants.{Report}
 use Rattle.vh_answers.specs.declared.status.Status.{Status}
-use Rattle.vh_answers.specs.declared.status.Status.TheVariants as status
 use Rattle.vh_answers.specs.Outside.{Store, Said, Outside, ReadAs, Unread, OnlyReads, Untouched}
 use Rattle.vh_answers.specs.Refusals.{IsRefusal, SaysLine, SaysOf, refused_text}
-use Rattle.vh_answers.specs.Steps.{Step, Reads, Judges, Output, Steps, Then, Last, Gives, IsGiven, StopsAt, Halts, Stopped, Halted, Passed, AllGiven, IsApart, IsWhole, IsBegun, IsAsBefore, AllWhole, IsCut, Ends, Done, Refused, Cut, Unsaid, NoMemory, EndsUnsaid, Answers, IsUnhindered, IsDone}
+use Rattle.vh_answers.specs.Steps.{Step, Reads, Judges, Output, Steps, Then, Last, Gives, IsGiven, StopsAt, Halts, Stopped, Halted, Passed, AllGiven, IsWhole, IsBegun, IsAsBefore, AllWhole, IsCut, Ends, Done, Refused, Cut, Unsaid, NoMemory, EndsUnsaid, Answers, IsUnhindered, IsDone}
 
 -- an ending of what follows a step that gave a value is an ending from that step on
 pub after : (Line : Status → Type 0) (Counts : ℕ → Type 0) (o : Outside) (X : Type 0) (step : Step X) (next : X → Steps) (x : X) (answer : Status)
@@ -41,7 +39,7 @@ read_since : (a b : Store) (name : List ℕ) (Holds : List ℕ → Type 0) → O
 read_since a b name Holds only (inl there) = inl (there.0, ap (λ held. told held name) (sym only.held) ∙ there.1, there.2)
 read_since a b name Holds only (inr gone) = inr (sym only.complete ∙ gone.0, ap (λ held. told held name) (sym only.held) ∙ gone.1)
 
-gives_since : (a b : Store) (X : Type 0) (step : Step X) (x : X) → OnlyReads a b → Gives b step x → Gives a step x
+pub gives_since : (a b : Store) (X : Type 0) (step : Step X) (x : X) → OnlyReads a b → Gives b step x → Gives a step x
 gives_since a b X (Reads E place name Says refusal Faults) x only given = read_since a b name (λ bytes. Says bytes x) only given
 gives_since a b X (Judges E Says refusal Faults) x only given = given
 
@@ -52,7 +50,7 @@ unread_since : (a b new : Store) (name : List ℕ) → OnlyReads a b → Unread 
 unread_since a b new name only (inl lacks) = inl (lacks_since a b name only lacks)
 unread_since a b new name only (inr rose) = inr (rose_since a.reads b.reads new.reads only.later rose)
 
-stops_since : (a b new : Store) (X : Type 0) (step : Step X) (answer : Status) → OnlyReads a b → StopsAt b new step answer → StopsAt a new step answer
+pub stops_since : (a b new : Store) (X : Type 0) (step : Step X) (answer : Status) → OnlyReads a b → StopsAt b new step answer → StopsAt a new step answer
 stops_since a b new X (Reads E place name Says refusal Faults) answer only (inl failed) = inl (failed.0, unread_since a b new name only failed.1)
 stops_since a b new X (Reads E place name Says refusal Faults) answer only (inr faulty) = inr (faulty.0, faulty.1, read_since a b name (λ bytes. Faults bytes faulty.0) only faulty.2)
 stops_since a b new X (Judges E Says refusal Faults) answer only faulty = faulty

@@ -3,3 +3,5 @@ pub mod Told
 pub mod Refusals
 pub mod Report
 pub mod Steps
+pub mod Each
+pub mod Listing

@@ -4,11 +4,13 @@
 #![tactic(auto)]
 
 mod line;
+mod listing;
 mod refusal;
 mod report;
 mod status;
 
 pub use line::Line;
+pub use listing::say_listing;
 pub use refusal::say_refusal;
 pub use report::{EditorCounts, Report};
 pub use status::{Place, Status};

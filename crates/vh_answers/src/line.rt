@@ -83,6 +83,16 @@ impl Line {
         self.word(digits.format(n).as_bytes());
     }
 
+    /// A number of 64 bits in decimal as a further word.
+    pub fn long(&mut self, n: u64)
+        requires { length (written_in self.old) ≤ 106 }
+        ensures text { written_in self.new ≡ written_in self.old ++ 32 ∷ decimal n }
+        ensures long { length (written_in self.new) ≤ length (written_in self.old) + 21 }
+    {
+        let mut digits = Buffer::new();
+        self.word(digits.format(n).as_bytes());
+    }
+
     /// The text of a parameter's value, normalised from 0 to 2^24, as further words.
     pub fn value(&mut self, table: &ParamTable, id: u32, value: u32)
         requires there { IsSome (param_in (params_of table.now) id) }

@@ -1,16 +1,19 @@
 //! The line of an answer.
 
-ghost use Rattle.std.specs.Prelude.{◌≡◌, ◌≤◌, ◌∷◌, [], length, codes};
+ghost use Rattle.std.specs.Prelude.{◌≡◌, ◌≤◌, ◌+◌, ◌++◌, ◌∷◌, [], length, codes};
 ghost use Rattle.vh_answers.specs.Outside.{voice};
 ghost use Rattle.vh_answers.specs.Told.{IsTold};
-ghost use Rattle.vh_answers.specs.Refusals.{wav_number, place_name, SaysOf};
+ghost use Rattle.vh_answers.specs.Refusals.{wav_number, place_name, node_word, SaysOf};
 ghost use Rattle.vh_answers.specs.declared.status.Status.TheVariants as status;
 ghost use Rattle.vh_text.specs.Written.{line_text};
 ghost use Rattle.std.specs.Fmt.{decimal};
+ghost use Rattle.vh_answers.specs.Told.{written_in};
+ghost use Rattle.vh_preset.specs.Numbers.{refusal_number};
 
 use crate::line::Line;
 use crate::status::{Place, Status};
 use vh_files::{Failed, Say};
+use vh_preset::PresetRefusal;
 use vh_wav::WavFault;
 
 fn wav_number(fault: WavFault) -> u32
@@ -33,6 +36,7 @@ fn place_name(place: Place) -> &'static [u8]
 {
     match place {
         Place::Session => b"session",
+        Place::Preset => b"preset",
         Place::Input => b"input",
         Place::Journal => b"journal",
         Place::Output => b"output",
@@ -86,6 +90,33 @@ fn say_wav<Y: Say>(line: &mut Line, say: &mut Y, fault: WavFault) -> Result<(), 
     line.say(say)
 }
 
+/// Adds the number of a node to a line, or a dash for none.
+fn put_node(line: &mut Line, node: Option<u32>)
+    requires { length (written_in line.old) ≤ 116 }
+    ensures text { written_in line.new ≡ written_in line.old ++ 32 ∷ node_word node }
+    ensures long { length (written_in line.new) ≤ length (written_in line.old) + 11 }
+{
+    match node {
+        Some(node) => line.number(node),
+        None => line.word(b"-"),
+    }
+}
+
+/// Says that a preset is refused.
+fn say_preset<Y: Say>(
+    line: &mut Line,
+    say: &mut Y,
+    node: Option<u32>,
+    kind: PresetRefusal,
+) -> Result<(), Failed>
+    ensures { IsTold result (voice Y.Say say.old) (voice Y.Say say.new) (line_text (codes "refused" ∷ codes "preset" ∷ node_word node ∷ decimal (refusal_number kind) ∷ [])) }
+{
+    line.begin(b"refused preset");
+    put_node(line, node);
+    line.number(u32::from(kind.number()));
+    line.say(say)
+}
+
 /// Says that a file can't be written. Of the report nothing is said.
 fn say_unwritten<Y: Say>(line: &mut Line, say: &mut Y, place: Place)
     ensures said { SaysOf (status.WriteFault place) (voice Y.Say say.old) (voice Y.Say say.new) }
@@ -116,6 +147,7 @@ pub fn say_refusal<Y: Say>(line: &mut Line, say: &mut Y, status: &Status)
             fault.kind.number(),
         ),
         Status::WavRefused(fault) => say_wav(line, say, fault),
+        Status::PresetRefused { node, kind } => say_preset(line, say, node, kind),
         Status::JournalRefused(fault) => say_fault(
             line,
             say,

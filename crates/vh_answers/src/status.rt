@@ -3,6 +3,7 @@
 ghost use Rattle.std.specs.Prelude.{◌≡◌};
 
 use vh_journal_text::JournalFault;
+use vh_preset::PresetRefusal;
 use vh_session::SessionFault;
 use vh_wav::WavFault;
 
@@ -10,6 +11,7 @@ use vh_wav::WavFault;
 #[derive(Clone, Copy, Debug, PartialEq, Eq)]
 pub enum Place {
     Session,
+    Preset,
     Input,
     Journal,
     Output,
@@ -23,6 +25,11 @@ pub enum Status {
     Usage,
     SessionRefused(SessionFault),
     WavRefused(WavFault),
+    /// The preset of a node, by its number, or a preset that is no node's.
+    PresetRefused {
+        node: Option<u32>,
+        kind: PresetRefusal,
+    },
     JournalRefused(JournalFault),
     ReadFault(Place),
     WriteFault(Place),
@@ -41,6 +48,7 @@ impl Status {
             Status::Usage => 1,
             Status::SessionRefused(_) => 2,
             Status::WavRefused(_) => 3,
+            Status::PresetRefused { node: _, kind: _ } => 4,
             Status::JournalRefused(_) => 5,
             Status::ReadFault(_) => 6,
             Status::WriteFault(_) => 7,

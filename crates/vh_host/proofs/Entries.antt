@@ -1,6 +1,6 @@
 -- Entries of a journal are entries that a rendering may carry.
-use Rattle.std.proofs.Common.{◌≡◌, ◌∙◌, ℕ, zero, suc, ◌+◌, ◌-◌, ◌<◌, ◌≤◌, Bool, true, false, cond, List, [], ◌∷◌, ◌++◌, length, map, take, get_or, Option, Some, None, refl, sym, ap, subst, arith}
-use Rattle.std.specs.Prelude.{All, ◌==◌, ◌&&◌, ◌||◌, nat_lt}
+use Rattle.std.proofs.Common.{◌≡◌, ◌∙◌, ℕ, zero, suc, ◌+◌, ◌-◌, ◌<◌, ◌≤◌, true, false, cond, List, [], ◌∷◌, length, map, take, get_or, Some, None, sym, ap, subst, arith}
+use Rattle.std.specs.Prelude.{◌==◌, ◌&&◌, ◌||◌, nat_lt}
 use Rattle.std.proofs.lemmas.List.{get_or-map, length-map, length-take, get_or-take}
 use Rattle.std.proofs.lemmas.Bool.{lt-ltb}
 use Rattle.vh_journal.specs.declared.entry.Entry.{Entry}
@@ -9,7 +9,7 @@ use Rattle.vh_params.specs.declared.command.Command.TheVariants.{Begin, Perform,
 use Rattle.vh_params.specs.declared.param.ParamInfo.{ParamInfo}
 use Rattle.vh_params.specs.Nodes.{Node, node_at, info_in}
 use Rattle.vh_params.specs.Params.{param_in}
-use Rattle.vh_plugin.specs.Class.{Param, param_of, has_writable}
+use Rattle.vh_plugin.specs.Class.{param_of, has_writable}
 use Rattle.vh_journal_text.specs.Items.{Item, item_of, items_of, node_of, act_of}
 use Rattle.vh_journal_text.specs.Keeps.{is_writable, IsSettable, MayStand, IsBehind, AreEntries}
 use Rattle.vh_journal_text.specs.Rules.{no_item, last_sample}

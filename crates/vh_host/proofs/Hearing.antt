@@ -1,7 +1,8 @@
 -- What was read of an input and of a journal.
-use Rattle.std.proofs.Common.{◌≡◌, ◌∙◌, ℕ, ◌+◌, ◌<◌, List, [], ◌∷◌, ◌++◌, length, take, map, get_or, Some, Ok, inl, inr, refl, sym, ap, subst, arith}
-use Rattle.std.specs.Prelude.{slice_index_or}
+use Rattle.std.proofs.Common.{◌≡◌, ◌∙◌, ℕ, ◌+◌, ◌<◌, true, List, [], ◌∷◌, ◌++◌, length, take, map, get_or, Some, Ok, inl, inr, refl, sym, ap, subst, arith}
+use Rattle.std.specs.Prelude.{IsSome, is_some, slice_index_or}
 use Rattle.std.specs.List.{cons_option, range_with_len}
+use Rattle.std.proofs.lemmas.Bool.{true≢false}
 use Rattle.std.proofs.lemmas.List.{take_more}
 use Rattle.std.proofs.lemmas.List.Elements.{filter_map-append}
 use Rattle.std.proofs.lemmas.List.FromFn.{get_or-map-range_with_len}
@@ -39,6 +40,11 @@ quiet_command sample (Tell node words) other = absurd (other node words refl)
 
 pub quiet_stop : (entry : Entry) → ((node : ℕ) (words : Words) → entry.command ≡ Tell node words → ⊥) → stops (entry ∷ []) ≡ []
 quiet_stop entry other = quiet_command entry.sample entry.command other
+
+-- a file that was read is there, where the store tells all
+pub there_if_read : (s b : Store) (name : List ℕ) (Holds : List ℕ → Type 0) → OnlyReads s b → ReadAs s name Holds → b.complete ≡ true → IsSome (told b.held name)
+there_if_read s b name Holds only (inl there) all = ap is_some (ap (λ held. told held name) only.held ∙ there.1)
+there_if_read s b name Holds only (inr gone) all = absurd (true≢false (sym all ∙ only.complete ∙ gone.0))
 
 -- sound that was read is what is heard: the file's frames, or its own where the file isn't told
 pub heard : (s b : Store) (name : List ℕ) (channels frames : ℕ) (head : Head) (sound : Sound) → OnlyReads s b → IsHead head → head.channels ≡ channels

@@ -4,12 +4,14 @@ mod Decided
 mod Entries
 mod Gathering
 mod Hearing
+mod Opened
 mod Outcomes
 mod Playing
 mod Readings
 mod Ready
 mod Rendered
 mod Replies
+mod Saved
 mod Sized
 mod Sizes
 mod Split

@@ -1,24 +1,18 @@
 -- What the parts of a command did to the outside, together.
-use Rattle.std.proofs.Common.{◌≡◌, ◌∙◌, ℕ, ◌+◌, ◌*◌, ◌≤◌, ◌-◌, ◌^◌, min, List, [], ◌∷◌, length, sum, refl, sym, ap, subst, arith}
+use Rattle.std.proofs.Common.{◌≡◌, ◌∙◌, ℕ, ◌+◌, ◌*◌, ◌≤◌, ◌-◌, ◌^◌, min, List, [], ◌∷◌, sum, sym, ap, subst, arith}
 use Rattle.vh_files.specs.Store.{Held, told, SameElsewhere}
 use Rattle.vh_plugin.specs.Counts.{raised_by}
-use Rattle.vh_instance.specs.Raised.{raised_times, raised_by_each, IsUndone, RaisedBySum}
+use Rattle.vh_instance.specs.Raised.{raised_times, raised_by_each, RaisedBySum}
 use Rattle.vh_files.specs.declared.outside.Files as files
 use Rattle.vh_files.specs.declared.outside.Say as say
 use Rattle.vh_answers.specs.Outside.{Store, Said, Outside, outside, OnlyReads, ChangesOnly, KeepsCounts}
 use Rattle.vh_host.specs.Known.{AreEnded}
 
--- a reading changes no file
-pub read_elsewhere : (a b : Store) (name : List ℕ) → OnlyReads a b → SameElsewhere name a.held b.held
-read_elsewhere a b name only = λ other apart. ap (λ held. told held other) only.held
-
-pub read_none : (a b : Store) → OnlyReads a b → ChangesOnly [] a.held b.held
-read_none a b only = λ other are. ap (λ held. told held other) only.held
-
--- and then only this file is changed
+-- a file alone is changed after a reading: so it is from before the reading on
 pub elsewhere_since : (a b c : Store) (name : List ℕ) → OnlyReads a b → SameElsewhere name b.held c.held → SameElsewhere name a.held c.held
 elsewhere_since a b c name only same = λ other apart. same other apart ∙ ap (λ held. told held other) only.held
 
+-- no other names are changed
 pub only_one : (old new : Held) (name : List ℕ) → SameElsewhere name old new → ChangesOnly (name ∷ []) old new
 only_one old new name same = λ other are. same other (are 0 [] (omega arith))
 
@@ -26,6 +20,7 @@ only_one old new name same = λ other are. same other (are 0 [] (omega arith))
 pub read_counts : (a b : Store) (said said_now : Said) → OnlyReads a b → said.faults ≤ said_now.faults → KeepsCounts (record { old = a; new = b; said = said; said_now = said_now })
 read_counts a b said said_now only later = record { complete = only.complete; reads = only.later; writes = let e = only.writes in omega (arith, e); faults = later }
 
+-- and none has fallen since before a reading
 pub counts_since : (a : Store) (o : Outside) → OnlyReads a o.old → KeepsCounts o → KeepsCounts (record { old = a; new = o.new; said = o.said; said_now = o.said_now })
 counts_since a o only keeps = record {
   complete = keeps.complete ∙ only.complete;
@@ -33,22 +28,6 @@ counts_since a o only keeps = record {
   writes = let e = only.writes in let f = keeps.writes in omega (arith, e, f);
   faults = keeps.faults;
 }
-
-pub counts_said : (o : Outside) (said_now : Said) → KeepsCounts o → o.said_now.faults ≤ said_now.faults → KeepsCounts (record { old = o.old; new = o.new; said = o.said; said_now = said_now })
-counts_said o said_now keeps later = record {
-  complete = keeps.complete;
-  reads = keeps.reads;
-  writes = keeps.writes;
-  faults = let e = keeps.faults in omega (arith, e, later);
-}
-
--- no object was made
-pub none_made : (made ended : ℕ) → AreEnded made ended made ended
-none_made made ended = (0, refl, refl)
-
--- all that was made for want of memory was ended again
-pub undone : (made ended work made_now ended_now work_now : ℕ) → IsUndone made ended work made_now ended_now work_now → AreEnded made ended made_now ended_now
-undone made ended work made_now ended_now work_now is = (is.objects, is.made, is.ended)
 
 -- components and controllers, as many of the ones as of the others
 pub band_ended : (made ended made_then ended_then made_now ended_now nodes components controllers : ℕ) → made_then ≡ raised_times (2 * nodes) made → ended_then ≡ ended

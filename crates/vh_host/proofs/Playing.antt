@@ -33,38 +33,38 @@ one : {A : Type 0} (P : A → Type 0) (x : A) → P x → All P (x ∷ [])
 one P x holds = λ k d lt. let z : k ≡ 0 = omega (arith, lt) in subst (λ j. P (get_or (x ∷ []) j d)) (sym z) holds
 
 -- an engine stands for what is heard
-pub plays : (class_of : ℕ → Class) (kept : Kept) (asked : Render) (heard : Heard) (output : List ℕ) (score : Score) (modes : List ℕ)
-    → IsScore asked kept.session heard output score modes → ((input : List Frame) → Stands class_of kept input []) → IsPlaying class_of kept score.sound.now heard.frames []
-plays class_of kept asked heard output score modes is stands = record {
+pub plays : (class_of : ℕ → Class) (kept : Kept) (asked : Render) (heard : Heard) (output : List ℕ) (score : Score)
+    → IsScore asked kept.session heard output score → ((input : List Frame) → Stands class_of kept input []) → IsPlaying class_of kept score.sound.now heard.frames []
+plays class_of kept asked heard output score is stands = record {
   stands = stands heard.frames;
   sound_is = λ place lt. let z : 0 + place ≡ place = omega arith in
       is.sound.samples_are place lt ∙ ap (λ k. slice_index_or heard.frames k (silence kept.session.channels)) (sym z);
 }
 
 -- the file that is played is the one that the command writes
-pub same_text : (class_of : ℕ → Class) (kept : Kept) (asked : Render) (heard : Heard) (output : List ℕ) (score : Score) (modes : List ℕ)
-    → IsScore asked kept.session heard output score modes
+pub same_text : (class_of : ℕ → Class) (kept : Kept) (asked : Render) (heard : Heard) (output : List ℕ) (score : Score)
+    → IsScore asked kept.session heard output score
     → file_text (scene_in class_of kept) heard.frames score ≡ wav_text kept.session.channels heard.rate kept.session.bits (rendering (scene_in class_of kept) heard.frames score.entries.now)
-same_text class_of kept asked heard output score modes is =
+same_text class_of kept asked heard output score is =
     let frames : List Frame = rendering (scene_in class_of kept) heard.frames score.entries.now in
     ap (λ rate. wav_text kept.session.channels rate score.bits frames) is.sound.rate_is ∙ ap (λ bits. wav_text kept.session.channels heard.rate bits frames) is.bits
 
 -- and it has the command's pieces
-pub same_pieces : (kept : Kept) (asked : Render) (heard : Heard) (output : List ℕ) (score : Score) (modes : List ℕ)
-    → IsScore asked kept.session heard output score modes → IsScoreOf kept score → piece_count score ≡ commands.piece_count asked.block kept.session score.entries.now
-same_pieces kept asked heard output score modes is of_it =
+pub same_pieces : (kept : Kept) (asked : Render) (heard : Heard) (output : List ℕ) (score : Score)
+    → IsScore asked kept.session heard output score → IsScoreOf kept score → piece_count score ≡ commands.piece_count asked.block kept.session score.entries.now
+same_pieces kept asked heard output score is of_it =
     ap (λ n. length (pieces_of n score.pattern.now score.stops.now)) of_it.samples
     ∙ ap (λ (pattern : List ℕ). length (pieces_of kept.session.length pattern score.stops.now)) is.pattern
     ∙ ap (λ (at : List ℕ). length (pieces_of kept.session.length (commands.pattern_of asked.block kept.session) at)) of_it.stops_are
 
 -- the output failed
-pub cut_short : (Counts : ℕ → Type 0) (o : Outside) (scene : Scene) (asked : Render) (content : Content) (heard : Heard) (entries : List Entry) (output text : List ℕ)
+pub cut_short : (Counts : ℕ → Type 0) (o : Outside) (scene : Scene) (modes : List ℕ) (asked : Render) (content : Content) (heard : Heard) (entries : List Entry) (output text : List ℕ)
     → output ≡ asked.output → text ≡ wav_text content.channels heard.rate content.bits (rendering scene heard.frames entries)
     → (o.new.held ≡ o.old.held) ⊎ HasPart o.old.complete (told o.new.held output) text → Rose o.old.writes o.new.writes → o.said_now.text ≡ o.said.text
-    → EndsUnsaid Counts o (commands.played_steps scene asked content heard entries) (status.WriteFault OutputPlace)
-cut_short Counts o scene asked content heard entries output text named e (inl same) rose unsaid =
+    → EndsUnsaid Counts o (commands.played_steps scene modes asked content heard entries) (status.WriteFault OutputPlace)
+cut_short Counts o scene modes asked content heard entries output text named e (inl same) rose unsaid =
     Cut OutputPlace refl tt (inl (refl, (λ apart. inl (ap (λ held. told held asked.output) same)), All-nil _)) rose unsaid
-cut_short Counts o scene asked content heard entries output text named e (inr part) rose unsaid =
+cut_short Counts o scene modes asked content heard entries output text named e (inr part) rose unsaid =
     let here : HasPart o.old.complete (told o.new.held asked.output) (wav_text content.channels heard.rate content.bits (rendering scene heard.frames entries)) =
     subst (λ t. HasPart o.old.complete (told o.new.held asked.output) t) e (subst (λ name. HasPart o.old.complete (told o.new.held name) text) named part) in
     Cut OutputPlace refl tt (inl (refl, (λ apart. inr here), All-nil _)) rose unsaid
@@ -78,33 +78,33 @@ whole old new scene asked content heard entries output text named e has =
     subst (λ t. HasNow old.complete (told new.held asked.output) t) e (subst (λ name. HasNow old.complete (told new.held name) text) named has))
 
 -- the report failed
-pub unsaid : (Counts : ℕ → Type 0) (o : Outside) (scene : Scene) (asked : Render) (content : Content) (heard : Heard) (entries : List Entry) (output text report : List ℕ)
+pub unsaid : (Counts : ℕ → Type 0) (o : Outside) (scene : Scene) (modes : List ℕ) (asked : Render) (content : Content) (heard : Heard) (entries : List Entry) (output text report : List ℕ)
     → output ≡ asked.output → text ≡ wav_text content.channels heard.rate content.bits (rendering scene heard.frames entries)
-    → HasNow o.old.complete (told o.new.held output) text → report ≡ commands.reported scene asked content heard entries
+    → HasNow o.old.complete (told o.new.held output) text → report ≡ commands.reported scene modes asked content heard entries
     → SaysInPart o.said.text o.said_now.text report → Rose o.said.faults o.said_now.faults
-    → EndsUnsaid Counts o (commands.played_steps scene asked content heard entries) (status.WriteFault Report)
-unsaid Counts o scene asked content heard entries output text report named e has says part rose =
+    → EndsUnsaid Counts o (commands.played_steps scene modes asked content heard entries) (status.WriteFault Report)
+unsaid Counts o scene modes asked content heard entries output text report named e has says part rose =
     Unsaid refl (whole o.old o.new scene asked content heard entries output text named e has, subst (λ t. SaysInPart o.said.text o.said_now.text t) says part) rose
 
 -- all was written and said
-pub done : (Counts : ℕ → Type 0) (o : Outside) (scene : Scene) (asked : Render) (content : Content) (heard : Heard) (entries : List Entry) (output text report : List ℕ)
+pub done : (Counts : ℕ → Type 0) (o : Outside) (scene : Scene) (modes : List ℕ) (asked : Render) (content : Content) (heard : Heard) (entries : List Entry) (output text report : List ℕ)
     → output ≡ asked.output → text ≡ wav_text content.channels heard.rate content.bits (rendering scene heard.frames entries)
-    → HasNow o.old.complete (told o.new.held output) text → report ≡ commands.reported scene asked content heard entries
+    → HasNow o.old.complete (told o.new.held output) text → report ≡ commands.reported scene modes asked content heard entries
     → SaysMore o.said.text o.said_now.text report → Counts (commands.calls_of asked content entries)
-    → EndsUnsaid Counts o (commands.played_steps scene asked content heard entries) status.Ok
-done Counts o scene asked content heard entries output text report named e has says more counts =
+    → EndsUnsaid Counts o (commands.played_steps scene modes asked content heard entries) status.Ok
+done Counts o scene modes asked content heard entries output text report named e has says more counts =
     Done refl (whole o.old o.new scene asked content heard entries output text named e has, subst (λ t. SaysMore o.said.text o.said_now.text t) says more, counts)
 
 -- the report that is said is the command's
-pub same_report : (scene : Scene) (asked : Render) (content now : Content) (heard : Heard) (entries : List Entry) (values modes : List ℕ) (pieces : ℕ) (given : List Answer)
-    → now ≡ content → values ≡ last_values scene heard.frames entries → modes ≡ replicate (length content.nodes) 0 → pieces ≡ commands.piece_count asked.block content entries
-    → given ≡ answers scene heard.frames entries → report_text now values modes pieces given [] ≡ commands.reported scene asked content heard entries
-same_report scene asked content now heard entries values modes pieces given now_is values_are modes_are count answers_are =
-    ap (λ (c : Content). report_text c values modes pieces given []) now_is
-    ∙ ap (λ (v : List ℕ). report_text content v modes pieces given []) values_are
+pub same_report : (scene : Scene) (asked : Render) (content now : Content) (heard : Heard) (entries : List Entry) (values shown modes : List ℕ) (pieces : ℕ) (given : List Answer)
+    → now ≡ content → values ≡ last_values scene heard.frames entries → shown ≡ modes → pieces ≡ commands.piece_count asked.block content entries
+    → given ≡ answers scene heard.frames entries → report_text now values shown pieces given [] ≡ commands.reported scene modes asked content heard entries
+same_report scene asked content now heard entries values shown modes pieces given now_is values_are modes_are count answers_are =
+    ap (λ (c : Content). report_text c values shown pieces given []) now_is
+    ∙ ap (λ (v : List ℕ). report_text content v shown pieces given []) values_are
     ∙ ap (λ (m : List ℕ). report_text content (last_values scene heard.frames entries) m pieces given []) modes_are
-    ∙ ap (λ (n : ℕ). report_text content (last_values scene heard.frames entries) (replicate (length content.nodes) 0) n given []) count
-    ∙ ap (λ (a : List Answer). report_text content (last_values scene heard.frames entries) (replicate (length content.nodes) 0) (commands.piece_count asked.block content entries) a []) answers_are
+    ∙ ap (λ (n : ℕ). report_text content (last_values scene heard.frames entries) modes n given []) count
+    ∙ ap (λ (a : List Answer). report_text content (last_values scene heard.frames entries) modes (commands.piece_count asked.block content entries) a []) answers_are
 
 -- all processors were called once for each piece and once more
 pub calls_are : (asked : Render) (content : Content) (entries : List Entry) (pieces n : ℕ) (old new : List ℕ)

@@ -1,9 +1,8 @@
 -- An engine of a band, and what it is to play.
-use Rattle.std.proofs.Common.{◌≡◌, ◌∙◌, ℕ, zero, suc, ◌+◌, ◌<◌, ◌≤◌, ◌^◌, Bool, true, false, eqb, List, [], ◌∷◌, length, map, replicate, ◌⊎◌, inl, inr, refl, sym, ap, subst, arith}
-use Rattle.std.specs.Prelude.{All, Vec, nat_le, ◌||◌}
-use Rattle.std.specs.List.{range_with_len}
-use Rattle.std.proofs.lemmas.Bool.{and_parts, leb-true, eqb-true}
-use Rattle.std.proofs.lemmas.List.{length-map, length-replicate}
+use Rattle.std.proofs.Common.{◌≡◌, ◌∙◌, ℕ, ◌≤◌, true, false, eqb, Option, List, [], ◌∷◌, length, map, replicate, ◌⊎◌, inl, inr, refl, sym, ap, subst, arith}
+use Rattle.std.specs.Prelude.{All, Vec, ◌||◌}
+use Rattle.std.proofs.lemmas.Bool.{eqb-true}
+use Rattle.std.proofs.lemmas.List.{length-map}
 use Rattle.std.proofs.lemmas.List.Elements.{All-tail}
 use Rattle.std.proofs.lemmas.List.FromFn.{length-map-range_with_len}
 use Rattle.std.specs.declared.alloc.Global.{Global}
@@ -16,8 +15,8 @@ use Rattle.vh_cut.specs.Cut.{IsPattern}
 use Rattle.vh_journal.specs.declared.entry.Entry.{Entry}
 use Rattle.vh_journal_text.specs.Items.{items_of}
 use Rattle.vh_journal_text.specs.Keeps.{AreEntries}
-use Rattle.vh_params.specs.Nodes.{nodes_of}
 use Rattle.vh_plugin.specs.Class.{Class}
+use Rattle.vh_preset.specs.Contents.{Contents}
 use Rattle.vh_session.specs.declared.session.Session.{Session}
 use Rattle.vh_session.specs.Content.{Content}
 use Rattle.vh_session.specs.Lines.{is_bits}
@@ -27,9 +26,10 @@ use Rattle.vh_meaning.specs.Rendering.{stops}
 use Rattle.vh_engine.specs.declared.parts.Parts.{Parts}
 use Rattle.vh_engine.specs.Kept.{Kept, scene_in}
 use Rattle.vh_engine.specs.Parts.{AreParts, IsFresh}
-use Rattle.vh_engine.specs.Staged.{of_all, holders_of}
-use Rattle.vh_instance.specs.Band.{ProcessorMeaning, ControllerMeaning, Plan, IsBand, IsHeld, by_node, code_at, mode_at, objects_of, of_processors, of_openers}
+use Rattle.vh_engine.specs.Staged.{holders_of}
+use Rattle.vh_instance.specs.Band.{ProcessorMeaning, ControllerMeaning, IsBand, IsHeld, by_node, code_at, objects_of, of_processors, of_openers}
 use Rattle.vh_instance.specs.Seats.{Seat, processor_seat, AreHeld}
+use Rattle.vh_instance.specs.Presets.{mode_at}
 use Rattle.vh_instance.specs.Firsts.{first_values}
 use Rattle.vh_instance.specs.declared.band.Band.{Band}
 use Rattle.vh_render.specs.declared.room.Room.{Room}
@@ -38,7 +38,7 @@ use Rattle.vh_render.specs.declared.sound.Sound.{Sound}
 use Rattle.vh_render.specs.Playing.{HasRoom, IsScoreOf, IsPlayable}
 use Rattle.vh_answers.specs.Outside.{Store}
 use Rattle.vh_host.specs.Words.{Render}
-use Rattle.vh_host.specs.Known.{Known, plan_of, codes_of, scene_under}
+use Rattle.vh_host.specs.Known.{Known, plan_of, codes_of, scene_under, modes_under}
 use Rattle.vh_host.specs.Input.{Heard, IsHeard}
 use Rattle.vh_host.specs.Commands.{pattern_of}
 use Rattle.vh_host.specs.Scores.{IsScore}
@@ -48,22 +48,6 @@ use Rattle.vh_host.proofs.Bands.{has_nodes, are_parts}
 use Rattle.vh_host.proofs.Entries.{HasNodes, may_follow}
 
 -- ---- sessions
-one_or_two : (n : ℕ) → 1 ≤ n → n ≤ 2 → (n ≡ 1) ⊎ (n ≡ 2)
-one_or_two zero some most = absurd (omega (arith, some))
-one_or_two (suc zero) some most = inl refl
-one_or_two (suc (suc zero)) some most = inr refl
-one_or_two (suc (suc (suc n))) some most = absurd (omega (arith, most))
-
--- one channel or two
-pub channels_are : (session : Session) → (session.channels ≡ 1) ⊎ (session.channels ≡ 2)
-channels_are session =
-    let parts = and_parts (nat_le 1 session.channels) (nat_le session.channels 2) session.keeps.channels in
-    one_or_two session.channels (leb-true 1 session.channels parts.0) (leb-true session.channels 2 parts.1)
-
--- at most 2^24 frames
-pub frames_most : (session : Session) → session.length ≤ 16777216
-frames_most session = leb-true session.length 16777216 (and_parts (nat_le 0 session.length) (nat_le session.length 16777216) session.keeps.frames).1
-
 two_bits : (n : ℕ) → is_bits n ≡ true → (n ≡ 16) ⊎ (n ≡ 24)
 two_bits n is = elim (eqb n 16) as (λ b. eqb n 16 ≡ b → b || eqb n 24 ≡ true → (n ≡ 16) ⊎ (n ≡ 24)) [
   | true ↦ λ one other. inl (eqb-true n 16 one)
@@ -75,10 +59,6 @@ bits_are : (session : Session) → (session.bits ≡ 16) ⊎ (session.bits ≡ 2
 bits_are session = two_bits session.bits session.keeps.bits
 
 -- ---- lists of zeros
-zeros : (of : ℕ → ℕ) → ((k : ℕ) → of k ≡ 0) → (start count : ℕ) → map of (range_with_len start count) ≡ replicate count 0
-zeros of all start zero = refl
-zeros of all start (suc count) = ap (λ (x : ℕ). x ∷ map of (range_with_len (start + 1) count)) (all start) ∙ ap (λ (xs : List ℕ). 0 ∷ xs) (zeros of all (start + 1) count)
-
 all_zero : (xs : List ℕ) → All (λ (n : ℕ). n ≡ 0) xs → xs ≡ replicate (length xs) 0
 all_zero [] all = refl
 all_zero (x ∷ xs) all = ap (λ (y : ℕ). y ∷ xs) (all 0 x (omega arith)) ∙ ap (λ (ys : List ℕ). 0 ∷ ys) (all_zero xs (All-tail (λ (n : ℕ). n ≡ 0) x xs all))
@@ -111,8 +91,8 @@ pub record IsOf (session : Session) (sizes : List ℕ) (material : Material) (sc
   pub rate : score.rate ≡ material.input.rate
 
 -- a band as it is made, of a set whose codes mean this
-module _ {P C : Type 0} (processing : ProcessorMeaning P) (controlling : ControllerMeaning C) (known : Known) (class_of : ℕ → Class) (same : known.class_of ≡ class_of)
-    (session : Session) (max : ℕ) (band : Band P C) (is : IsBand processing controlling (plan_of known (content_of session) max) band) where
+module _ {P C : Type 0} (processing : ProcessorMeaning P) (controlling : ControllerMeaning C) (known : Known) (presets : List (Option Contents)) (class_of : ℕ → Class) (same : known.class_of ≡ class_of)
+    (session : Session) (max : ℕ) (band : Band P C) (is : IsBand processing controlling (plan_of known (content_of session) presets max) band) where
   abbrev content : Content
   content = content_of session
 
@@ -120,14 +100,14 @@ module _ {P C : Type 0} (processing : ProcessorMeaning P) (controlling : Control
   parts = record { session = session; processors = band.processors; first = band.first }
 
   pub parts_of : AreParts class_of processing.code processing.state processing.values processing.phase processing.setup parts max
-  parts_of = subst (λ (c : ℕ → Class). AreParts c processing.code processing.state processing.values processing.phase processing.setup parts max) same (are_parts processing controlling known session max band is)
+  parts_of = subst (λ (c : ℕ → Class). AreParts c processing.code processing.state processing.values processing.phase processing.setup parts max) same (are_parts processing controlling known session presets max band is)
 
   pub held : IsHeld band
   held = record { components = is.components.held; controllers = is.controllers.held }
 
-  -- its controllers show their values as they do at first
-  pub modes_zero : (modes : List ℕ) → modes ≡ of_openers controlling.mode band.edits.items → modes ≡ replicate (length content.nodes) 0
-  modes_zero modes same = same ∙ is.controllers.modes ∙ zeros (mode_at (plan_of known content max)) (λ k. refl) 0 (length content.nodes)
+  -- its controllers show their values as its presets say
+  pub modes_are : (modes : List ℕ) → modes ≡ of_openers controlling.mode band.edits.items → modes ≡ modes_under known content presets
+  modes_are modes same = same ∙ is.controllers.modes
 
   as_many : {A : Type 0} (meant : P → A) (of : ℕ → A) → of_processors meant band.processors.items ≡ by_node (length content.nodes) of → length band.processors.items ≡ length content.nodes
   as_many meant of same = sym (length-map band.processors.items (λ (x : Processing P). meant (value_of_opened (of_processing x)))) ∙ ap length same ∙ length-map-range_with_len of 0 (length content.nodes)
@@ -135,12 +115,12 @@ module _ {P C : Type 0} (processing : ProcessorMeaning P) (controlling : Control
   -- an engine of it, before its first sample
   module _ (answers : ℕ) (kept : Kept) (fresh : IsFresh class_of processing.code processing.calls parts max answers kept) where
     -- its scene is the session's
-    pub same_scene : scene_in class_of kept ≡ scene_under known content
+    pub same_scene : scene_in class_of kept ≡ scene_under known content presets
     same_scene =
         ap (λ (c : ℕ → Class). scene_of c kept.codes kept.firsts kept.session) (sym same)
         ∙ ap (λ (codes : List ℕ). scene_of known.class_of codes kept.firsts kept.session) (fresh.codes ∙ is.components.codes)
         ∙ ap (λ (firsts : List ℕ). scene_of known.class_of (codes_of known content) firsts kept.session) (fresh.firsts ∙ is.first)
-        ∙ ap (λ (c : Content). scene_of known.class_of (codes_of known content) (first_values content) c) fresh.session
+        ∙ ap (λ (c : Content). scene_of known.class_of (codes_of known content) (first_values (plan_of known content presets max)) c) fresh.session
 
     -- its processors were not called yet
     pub not_called : kept.calls ≡ replicate (length kept.session.nodes) 0
@@ -148,32 +128,28 @@ module _ {P C : Type 0} (processing : ProcessorMeaning P) (controlling : Control
         let calls : List ℕ = of_processors processing.calls band.processors.items in
         let long : length calls ≡ length kept.session.nodes =
         length-map band.processors.items (λ (x : Processing P). processing.calls (value_of_opened (of_processing x)))
-        ∙ as_many processing.code (code_at (plan_of known content max)) is.components.codes ∙ sym (ap (λ (c : Content). length c.nodes) fresh.session) in
+        ∙ as_many processing.code (code_at (plan_of known content presets max)) is.components.codes ∙ sym (ap (λ (c : Content). length c.nodes) fresh.session) in
         fresh.calls_are ∙ all_zero calls is.components.calls ∙ ap (λ (n : ℕ). replicate n 0) long
 
     -- its classes have the session's parameters
     nodes_in : HasNodes (scene_in class_of kept) content.nodes
-    nodes_in = subst (λ (scene : Scene). HasNodes scene content.nodes) (sym same_scene) (has_nodes (plan_of known content max) is.suited)
+    nodes_in = subst (λ (scene : Scene). HasNodes scene content.nodes) (sym same_scene) (has_nodes (plan_of known content presets max) is.suited)
 
     pub nodes_there : node_count (scene_in class_of kept) ≡ length kept.session.nodes
     nodes_there = nodes_in.count ∙ sym (ap (λ (c : Content). length c.nodes) fresh.session)
 
     pub modes_there : (modes : List ℕ) → modes ≡ of_openers controlling.mode band.edits.items → length modes ≡ length kept.session.nodes
-    modes_there modes same = ap length (modes_zero modes same) ∙ length-replicate (length content.nodes) 0 ∙ sym (ap (λ (c : Content). length c.nodes) fresh.session)
-
-    pub short : kept.session.length < 2 ^ 32
-    short = let most = frames_most session in let e = ap (λ (c : Content). c.length) fresh.session in omega (arith, most, e)
+    modes_there modes same = ap length (modes_are modes same) ∙ length-map-range_with_len (mode_at (plan_of known content presets max)) 0 (length content.nodes) ∙ sym (ap (λ (c : Content). length c.nodes) fresh.session)
 
     -- what was read is what it is to play
     module _ (old : Store) (asked : Render) (heard : Heard) (sizes : List ℕ) (material : Material) (score : Score) (gathered : IsGathered old asked content heard material) (of_it : IsOf session sizes material score) where
-      pub is_score : (output modes : List ℕ) → output ≡ asked.output → sizes ≡ pattern_of asked.block content → modes ≡ of_openers controlling.mode band.edits.items → IsScore asked kept.session heard output score modes
-      is_score output modes named sizes_are modes_are = subst (λ (c : Content). IsScore asked c heard output score modes) (sym fresh.session) (record {
+      pub is_score : (output : List ℕ) → output ≡ asked.output → sizes ≡ pattern_of asked.block content → IsScore asked kept.session heard output score
+      is_score output named sizes_are = subst (λ (c : Content). IsScore asked c heard output score) (sym fresh.session) (record {
         output_is = named;
         pattern = of_it.pattern ∙ sizes_are;
         bits = of_it.bits;
         sound = subst (λ (rate : ℕ). IsHeard content.channels content.length heard rate score.sound.now) (sym of_it.rate)
             (subst (λ (sound : Sound). IsHeard content.channels content.length heard material.input.rate sound) (sym of_it.sound) gathered.sound);
-        modes_are = modes_zero modes modes_are;
       })
 
       score_of : IsPattern sizes → All (λ (size : ℕ). size ≤ max) sizes → IsScoreOf kept score

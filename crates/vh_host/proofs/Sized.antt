@@ -1,11 +1,11 @@
 -- The size of blocks that words give.
-use Rattle.std.proofs.Common.{◌≡◌, ◌∙◌, ℕ, ◌≤◌, Bool, true, false, cond, List, [], ◌∷◌, take, drop, Option, Some, None, refl, sym, ap, subst, arith}
+use Rattle.std.proofs.Common.{◌≡◌, ℕ, Bool, true, false, cond, List, [], ◌∷◌, take, drop, Option, Some, None, refl, sym, subst}
 use Rattle.std.specs.Prelude.{⊤, codes, nat_le}
 use Rattle.std.specs.Option.{option_map}
 use Rattle.std.specs.Str.{bytes_eq}
 use Rattle.std.proofs.lemmas.Bool.{and_parts, leb-true}
 use Rattle.vh_text.specs.Numbers.{number_of, is_within}
-use Rattle.vh_host.specs.Words.{Command, Renders, Checks, if_size, block_in, behind_files, render_in, replay_in, check_in, command_in}
+use Rattle.vh_host.specs.Words.{Command, Renders, if_size, block_in, behind_files, render_in, replay_in, check_in, show_in, save_in, command_in}
 use Rattle.vh_host.specs.Named.{IsSize, IsSized}
 
 -- what holds of a value, where there is one
@@ -62,6 +62,18 @@ check_sized [] = tt
 check_sized (session ∷ []) = tt
 check_sized (session ∷ more ∷ words) = tt
 
+show_sized : (words : List (List ℕ)) → Of IsSized (show_in words)
+show_sized [] = tt
+show_sized (preset ∷ []) = tt
+show_sized (preset ∷ more ∷ words) = tt
+
+save_sized : (words : List (List ℕ)) → Of IsSized (save_in words)
+save_sized [] = tt
+save_sized (session ∷ []) = tt
+save_sized (session ∷ node ∷ []) = tt
+save_sized (session ∷ node ∷ output ∷ []) = tt
+save_sized (session ∷ node ∷ output ∷ more ∷ words) = tt
+
 either : (b : Bool) (one other : Option Command) → Of IsSized one → Of IsSized other → Of IsSized (cond b one other)
 either true one other is also = is
 either false one other is also = also
@@ -71,7 +83,9 @@ all_sized [] = tt
 all_sized (word ∷ words) =
     either (bytes_eq word (codes "render")) _ _ (render_sized words)
     (either (bytes_eq word (codes "replay")) _ _ (replay_sized words)
-    (either (bytes_eq word (codes "check")) _ _ (check_sized words) tt))
+    (either (bytes_eq word (codes "check")) _ _ (check_sized words)
+    (either (bytes_eq word (codes "preset-show")) _ _ (show_sized words)
+    (either (bytes_eq word (codes "preset-save")) _ _ (save_sized words) tt))))
 
 -- a command that words are has blocks of 1 to 8192 frames, where they give a size
 pub is_sized : (words : List (List ℕ)) (command : Command) → Some command ≡ command_in words → IsSized command

@@ -1,19 +1,25 @@
 -- The command that was read.
 use Rattle.std.specs.Option.{option_map}
-use Rattle.std.specs.Prelude.{◌≤◌, ⊤, Option, Some, None, Result, Ok, Err, List, ℕ}
+use Rattle.std.specs.Prelude.{◌≤◌, ⊤, Option, Some, None, Result, Ok, Err, ℕ}
 use Rattle.vh_answers.specs.declared.status.Status.{Status}
 use Rattle.vh_answers.specs.declared.status.Status.TheVariants as status
 use Rattle.vh_host.specs.declared.words.Command.{Command as Read}
 use Rattle.vh_host.specs.declared.words.Command.TheVariants as read
 use Rattle.vh_host.specs.declared.words.Render.{Render as Files}
-use Rattle.vh_host.specs.Words.{Render, Command, Renders, Checks}
+use Rattle.vh_host.specs.declared.words.Save.{Save as Saving}
+use Rattle.vh_host.specs.Words.{Render, Save, Command, Renders, Checks, Shows, Saves}
 
 abbrev pub render_of : Files → Render
 render_of files = record { session = files.session.now; input = files.input.now; output = files.output.now; journal = option_map (λ name. name.now) files.journal; block = files.block }
 
+abbrev pub save_of : Saving → Save
+save_of files = record { session = files.session.now; node = files.node.now; output = files.output.now }
+
 abbrev pub command_of : Read → Command
 command_of (read.Render files) = Renders (render_of files)
 command_of (read.Check session) = Checks session.now
+command_of (read.PresetShow preset) = Shows preset.now
+command_of (read.PresetSave files) = Saves (save_of files)
 
 abbrev pub commanded : Option Read → Option Command
 commanded None = None
@@ -32,3 +38,5 @@ IsSize (Some size) = (1 ≤ size) × (size ≤ 8192)
 abbrev pub IsSized : Command → Type 0
 IsSized (Renders render) = IsSize render.block
 IsSized (Checks name) = ⊤
+IsSized (Shows name) = ⊤
+IsSized (Saves save) = ⊤

@@ -12,10 +12,19 @@ pub record Render : Type 0 where
   pub journal : Option (List ℕ)
   pub block : Option ℕ
 
+-- What is saved: the preset of a session's node, and into which file.
+pub record Save : Type 0 where
+  pub session : List ℕ
+  pub node : List ℕ
+  pub output : List ℕ
+
 pub data Command : Type 0 where
   Renders : Render → Command
   -- the session's file
   Checks : List ℕ → Command
+  -- the preset's file
+  Shows : List ℕ → Command
+  Saves : Save → Command
 
 abbrev pub if_size : Option ℕ → Option ℕ
 if_size None = None
@@ -48,11 +57,23 @@ abbrev pub check_in : List (List ℕ) → Option Command
 check_in (session ∷ []) = Some (Checks session)
 check_in _ = None
 
--- `render`, `replay` and `check`, each with its words; there is no other command yet
+-- `FILE`
+abbrev pub show_in : List (List ℕ) → Option Command
+show_in (preset ∷ []) = Some (Shows preset)
+show_in _ = None
+
+-- `SESSION NODE OUT`
+abbrev pub save_in : List (List ℕ) → Option Command
+save_in (session ∷ node ∷ output ∷ []) = Some (Saves (record { session = session; node = node; output = output }))
+save_in _ = None
+
+-- `render`, `replay`, `check`, `preset-show` and `preset-save`, each with its words; there is no other command yet
 abbrev pub command_in : List (List ℕ) → Option Command
 command_in [] = None
 command_in (word ∷ words) =
     if bytes_eq word (codes "render") then render_in words
     else (if bytes_eq word (codes "replay") then replay_in words
     else (if bytes_eq word (codes "check") then check_in words
-    else None))
+    else (if bytes_eq word (codes "preset-show") then show_in words
+    else (if bytes_eq word (codes "preset-save") then save_in words
+    else None))))

@@ -9,7 +9,6 @@ ghost use Rattle.vh_answers.specs.Outside.{store, OnlyReads};
 ghost use Rattle.vh_answers.specs.Steps.{Gives, Halts};
 ghost use Rattle.vh_host.specs.Commands.{journal_step};
 
-use crate::read::read_text;
 use std::alloc::{AllocError, Global};
 use vh_answers::{Place, Status};
 use vh_files::Files;
@@ -17,6 +16,7 @@ use vh_journal::Entry;
 use vh_journal_text::{JOURNAL_LIMIT, JournalFault, JournalKind, read};
 use vh_num::Refusal;
 use vh_params::{Command, NodeTable};
+use vh_reading::read_text;
 
 /// What refuses a journal that has too many bytes.
 const TOO_LONG: Status = Status::JournalRefused(JournalFault {

@@ -44,7 +44,7 @@ fn read_entries<F: Files>(
     ensures given { IfOk result (λ entries. AreGiven (store F.Files files.old) (content_of session.now) (render_of render.now).journal entries.items) }
     ensures journal { IfOk result (λ entries. AreEntries (nodes_of session.now.nodes) session.now.length (items_of entries.items)) }
     ensures there { IfOk result (λ entries. AreThere (nodes_of session.now.nodes) entries.items) }
-    ensures stop { (scene : Scene) (heard : Heard) → IfErr result (Halted (store F.Files files.old) (store F.Files files.new) (heard_steps scene (render_of render.now) (content_of session.now) heard)) }
+    ensures stop { (scene : Scene) (modes : List ℕ) (heard : Heard) → IfErr result (Halted (store F.Files files.old) (store F.Files files.new) (heard_steps scene modes (render_of render.now) (content_of session.now) heard)) }
     ensures only_read { OnlyReads (store F.Files files.old) (store F.Files files.new) }
 {
     match render.journal {
@@ -63,11 +63,17 @@ pub(crate) fn read_material<F: Files>(
     ensures gathered { IfOk result (λ material. (heard : Heard) × IsGathered (store F.Files files.old) (render_of render.now) (content_of session.now) heard material) }
     ensures journal { IfOk result (λ material. AreEntries (nodes_of session.now.nodes) session.now.length (items_of material.entries.items)) }
     ensures there { IfOk result (λ material. AreThere (nodes_of session.now.nodes) material.entries.items) }
-    ensures stop { (scene : Scene) → IfErr result (Halted (store F.Files files.old) (store F.Files files.new) (made_steps scene (render_of render.now) (content_of session.now))) }
+    ensures stop { (scene : Scene) (modes : List ℕ) → IfErr result (Halted (store F.Files files.old) (store F.Files files.new) (made_steps scene modes (render_of render.now) (content_of session.now))) }
     ensures only_read { OnlyReads (store F.Files files.old) (store F.Files files.new) }
 {
-    let input = read_input(alloc, files, render.input, session.channels, session.length)?;
-    let entries = read_entries(alloc, files, render, session)?;
+    let input = match read_input(alloc, files, render.input, session.channels, session.length) {
+        Ok(input) => input,
+        Err(status) => return Err(status),
+    };
+    let entries = match read_entries(alloc, files, render, session) {
+        Ok(entries) => entries,
+        Err(status) => return Err(status),
+    };
     let Ok(stops) = stops(alloc, &entries) else {
         return Err(Status::Memory);
     };

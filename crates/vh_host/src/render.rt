@@ -1,6 +1,6 @@
 //! `render` and `replay`.
 
-ghost use Rattle.std.specs.Prelude.{◌≡◌, ◌≤◌, ◌<◌, ◌+◌, ◌*◌, ◌-◌, ◌^◌, ◌⊎◌, ℕ, List, [], length, map, replicate, sum, sum_by, All, IfOk, false};
+ghost use Rattle.std.specs.Prelude.{◌≡◌, ◌≤◌, ◌<◌, ◌+◌, ◌*◌, ◌-◌, ◌^◌, ◌⊎◌, ℕ, List, [], Option, length, map, replicate, sum, sum_by, All, IfOk, false};
 ghost use Rattle.vh_component.specs.declared.setup.Phase.TheVariants.{Processing as AtProcessing};
 ghost use Rattle.vh_cut.specs.Cut.{IsPattern};
 ghost use Rattle.vh_files.specs.Store.{SameElsewhere};
@@ -9,6 +9,7 @@ ghost use Rattle.vh_journal_text.specs.Keeps.{AreEntries, AreThere};
 ghost use Rattle.vh_num.specs.Frames.{Frame};
 ghost use Rattle.vh_params.specs.Nodes.{nodes_of};
 ghost use Rattle.vh_plugin.specs.Counts.{raised_by};
+ghost use Rattle.vh_preset.specs.Contents.{Contents};
 ghost use Rattle.vh_session.specs.Names.{content_of};
 ghost use Rattle.vh_meaning.specs.Scene.{node_count};
 ghost use Rattle.vh_engine.specs.Kept.{scene_in, Stands, IsSameEngine};
@@ -18,16 +19,16 @@ ghost use Rattle.vh_answers.specs.Outside.{store, outside, KeepsCounts};
 ghost use Rattle.vh_answers.specs.Steps.{EndsUnsaid};
 ghost use Rattle.vh_answers.specs.Told.{written_in};
 ghost use Rattle.vh_host.specs.Words.{Render as Asked};
-ghost use Rattle.vh_host.specs.Known.{Known, scene_under, plan_of, AreEnded};
+ghost use Rattle.vh_host.specs.Known.{Known, plan_of, AreEnded};
 ghost use Rattle.vh_host.specs.Input.{Heard, IsHeard};
 ghost use Rattle.vh_host.specs.Material.{IsGathered};
 ghost use Rattle.vh_host.specs.Scores.{IsScore};
-ghost use Rattle.vh_host.specs.Commands.{render_steps, made_steps, played_steps, pattern_of};
+ghost use Rattle.vh_host.specs.Commands.{render_steps, begun_steps, played_steps, pattern_of};
 ghost use Rattle.vh_host.specs.Named.{render_of, status_of, IsSize};
 
 use crate::blocks::Blocks;
 use crate::material::{Material, read_material};
-use crate::session::read_plain;
+use crate::opening::{Opening, open_session};
 use crate::words::Render;
 use std::alloc::{AllocError, Global};
 use vh_answers::{Line, Place, Report, Status};
@@ -35,7 +36,7 @@ use vh_counted::Opened;
 use vh_engine::{Engine, Parts};
 use vh_files::{Files, Say};
 use vh_instance::laws::raised_by_sum;
-use vh_instance::{Band, make, tear_down};
+use vh_instance::{Band, tear_down};
 use vh_plugin::{Controller, PluginSet, Processor};
 use vh_render::{Room, Score};
 use vh_session::Session;
@@ -95,9 +96,9 @@ fn play<F: Files, Y: Say, P: Processor + Drop>(
     requires modes { length supplies.old.modes.items ≡ length engine.old.session.nodes }
     requires nodes { node_count (scene_in P.class_of engine.old) ≡ length engine.old.session.nodes }
     requires short { engine.old.session.length < 2 ^ 32 }
-    requires scored { (asked : Asked) × (heard : Heard) × IsScore asked engine.old.session heard output.now score.now supplies.old.modes.items }
-    ensures ends { (asked : Asked) (heard : Heard) → IsScore asked engine.old.session heard output.now score.now supplies.old.modes.items
-        → EndsUnsaid (λ calls. sum engine.new.calls ≡ calls) (outside F.Files Y.Say files.old files.new say.old say.new) (played_steps (scene_in P.class_of engine.old) asked engine.old.session heard score.now.entries.now) (status_of result) }
+    requires scored { (asked : Asked) × (heard : Heard) × IsScore asked engine.old.session heard output.now score.now }
+    ensures ends { (asked : Asked) (heard : Heard) → IsScore asked engine.old.session heard output.now score.now
+        → EndsUnsaid (λ calls. sum engine.new.calls ≡ calls) (outside F.Files Y.Say files.old files.new say.old say.new) (played_steps (scene_in P.class_of engine.old) supplies.old.modes.items asked engine.old.session heard score.now.entries.now) (status_of result) }
     ensures same { IsSameEngine engine.old engine.new }
     ensures others { SameElsewhere output.now (F.held files.old) (F.held files.new) }
     ensures counts { KeepsCounts (outside F.Files Y.Say files.old files.new say.old say.new) }
@@ -128,22 +129,22 @@ fn render_band<F: Files, Y: Say, P: Processor + Drop, C: Controller + Drop>(
     files: &mut F,
     say: &mut Y,
 ) -> (Band<P, C>, Result<(), Status>)
-    requires band { (known : Known) × (known.class_of ≡ P.class_of) × IsBand
+    requires band { (known : Known) × (presets : List (Option Contents)) × (known.class_of ≡ P.class_of) × IsBand
         (record { code = P.code; values = P.values; state = P.state; calls = P.calls; phase = P.phase; setup = P.last_setup })
         (record { code = C.code; values = C.values; mode = C.mode })
-        (plan_of known (content_of session) blocks.now.longest) band }
+        (plan_of known (content_of session) presets blocks.now.longest) band }
     requires pattern { IsPattern blocks.now.sizes.items }
     requires sizes { blocks.now.sizes.items ≡ pattern_of render.now.block (content_of session) }
     ensures held { IsHeld result.0 }
     ensures processing { All (λ phase. phase ≡ AtProcessing) (of_processors P.phase result.0.processors.items) }
     ensures components { length result.0.components.items ≡ length (nodes_of session.nodes) }
     ensures controllers { length result.0.controllers.items ≡ length (nodes_of session.nodes) }
-    ensures ends { (known : Known) → known.class_of ≡ P.class_of → IsBand
+    ensures ends { (known : Known) (presets : List (Option Contents)) → known.class_of ≡ P.class_of → IsBand
         (record { code = P.code; values = P.values; state = P.state; calls = P.calls; phase = P.phase; setup = P.last_setup })
         (record { code = C.code; values = C.values; mode = C.mode })
-        (plan_of known (content_of session) blocks.now.longest) band
+        (plan_of known (content_of session) presets blocks.now.longest) band
         → EndsUnsaid (λ calls. sum (of_processors P.calls result.0.processors.items) ≡ calls) (outside F.Files Y.Say files.old files.new say.old say.new)
-        (made_steps (scene_under known (content_of session)) (render_of render.now) (content_of session)) (status_of result.1) }
+        (begun_steps known (render_of render.now) (content_of session) presets) (status_of result.1) }
     ensures others { SameElsewhere render.now.output.now (F.held files.old) (F.held files.new) }
     ensures counts { KeepsCounts (outside F.Files Y.Say files.old files.new say.old say.new) }
 {
@@ -220,12 +221,13 @@ pub(crate) fn render<F: Files, Y: Say, S: PluginSet>(
     ensures infos { S.infos set.new ≡ S.infos set.old }
     ensures codes { (class : ℕ) → S.code set.new class ≡ S.code set.old class }
 {
-    let session = read_plain(alloc, files, render.session, set.classes())?;
-    let Ok(blocks) = Blocks::new(alloc, &session, render.block) else {
-        return Err(Status::Memory);
-    };
-    let Ok(band) = make(alloc, set, &session, blocks.longest) else {
-        return Err(Status::Memory);
+    let Opening {
+        session,
+        blocks,
+        band,
+    } = match open_session(alloc, files, set, render.session, render.block) {
+        Ok(opening) => opening,
+        Err(status) => return Err(status),
     };
     let (band, result) = render_band(alloc, render, &blocks, session, band, files, say);
     raised_by_sum();

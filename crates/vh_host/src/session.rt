@@ -1,21 +1,21 @@
 //! Reading a session.
 
-ghost use Rattle.std.specs.Prelude.{◌≡◌, ◌≤◌, [], length, IfOk, IfErr};
+ghost use Rattle.std.specs.Prelude.{◌≡◌, ◌≤◌, length, IfOk, IfErr};
 ghost use Rattle.vh_params.specs.ClassList.{classes_of};
 ghost use Rattle.vh_session.specs.Ended.{SaysSession};
 ghost use Rattle.vh_session.specs.Keeps.{StandsUnder};
 ghost use Rattle.vh_session.specs.Names.{content_of};
 ghost use Rattle.vh_answers.specs.Outside.{store, OnlyReads};
 ghost use Rattle.vh_answers.specs.Steps.{Gives, Halts};
-ghost use Rattle.vh_host.specs.Commands.{session_step, plain_step, IsTextFault};
+ghost use Rattle.vh_host.specs.Commands.{session_step, IsTextFault};
 
-use crate::read::read_text;
 use std::alloc::Global;
 use vh_answers::{Place, Status};
 use vh_files::Files;
 use vh_num::Refusal;
 use vh_params::Classes;
-use vh_session::{SESSION_LIMIT, Session, SessionFault, SessionKind, first_preset, read};
+use vh_reading::read_text;
+use vh_session::{SESSION_LIMIT, Session, SessionFault, SessionKind, read};
 
 /// What refuses a session that has too many bytes.
 const TOO_LONG: Status = Status::SessionRefused(SessionFault {
@@ -44,32 +44,10 @@ pub(crate) fn read_session<F: Files>(
     classes: &Classes,
 ) -> Result<Session, Status>
     ensures gives { IfOk result (λ session. Gives (store F.Files files.old) (session_step (classes_of classes.now) name.now) (content_of session)) }
+    ensures stands { IfOk result (λ session. StandsUnder (classes_of classes.now) (content_of session)) }
     ensures stop { IfErr result (Halts (store F.Files files.old) (store F.Files files.new) (session_step (classes_of classes.now) name.now)) }
     ensures only_read { OnlyReads (store F.Files files.old) (store F.Files files.new) }
 {
     let text = read_text(alloc, files, name, Place::Session, SESSION_LIMIT, TOO_LONG)?;
     parse(alloc, text.as_slice(), classes)
-}
-
-/// Reads a session that has no presets.
-pub(crate) fn read_plain<F: Files>(
-    alloc: Global,
-    files: &mut F,
-    name: &str,
-    classes: &Classes,
-) -> Result<Session, Status>
-    ensures gives { IfOk result (λ session. Gives (store F.Files files.old) (plain_step (classes_of classes.now) name.now) (content_of session)) }
-    ensures stands { IfOk result (λ session. StandsUnder (classes_of classes.now) (content_of session)) }
-    ensures stop { IfErr result (Halts (store F.Files files.old) (store F.Files files.new) (plain_step (classes_of classes.now) name.now)) }
-    ensures only_read { OnlyReads (store F.Files files.old) (store F.Files files.new) }
-{
-    let text = read_text(alloc, files, name, Place::Session, SESSION_LIMIT, TOO_LONG)?;
-    let session = parse(alloc, text.as_slice(), classes)?;
-    if session.presets.is_empty() {
-        return Ok(session);
-    }
-    Err(Status::SessionRefused(SessionFault {
-        line: first_preset(text.as_slice()).unwrap_or(0),
-        kind: SessionKind::NotYet,
-    }))
 }

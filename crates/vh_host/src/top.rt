@@ -11,6 +11,8 @@ ghost use Rattle.vh_host.specs.Commands.{steps_in, command_steps, outputs_of};
 ghost use Rattle.vh_host.specs.Named.{command_of, status_of, IsSized};
 
 use crate::check::check;
+use crate::preset_save::preset_save;
+use crate::preset_show::preset_show;
 use crate::render::render;
 use crate::words::{Command, read_words};
 use std::alloc::Global;
@@ -39,6 +41,8 @@ fn run_command<F: Files, Y: Say, S: PluginSet>(
     match *command {
         Command::Render(files_asked) => render(alloc, &files_asked, files, say, set),
         Command::Check(name) => check(alloc, name, files, say, set.classes()),
+        Command::PresetShow(name) => preset_show(alloc, name, files, say),
+        Command::PresetSave(asked) => preset_save(alloc, &asked, files, set),
     }
 }
 
@@ -69,10 +73,13 @@ fn run_words<F: Files, Y: Say, S: PluginSet>(
 
 /// Runs a command, of these:
 ///
-/// - `render SESSION IN OUT` renders a session over the frames of IN, a WAV file of the session's channels, into
-///   OUT, a WAV file of the session's bits and of IN's rate, and says the report.
+/// - `render SESSION IN OUT` renders a session, whose nodes are loaded with their presets, over the frames of IN, a WAV file
+///   of the session's channels, into OUT, a WAV file of the session's bits and of IN's rate, and says the report.
 /// - `replay SESSION IN OUT JOURNAL` renders it under the entries of a journal.
 /// - `check SESSION` reads a session and says its canonical text; presets are not read.
+/// - `preset-show FILE` says what a preset has: its class, its version, and its chunks.
+/// - `preset-save SESSION NODE OUT` saves a node's class, its first values and its controller's state as the preset OUT,
+///   and says nothing.
 ///
 /// Behind the files of a rendering `block=N`, N from 1 to 8192, may stand: it cuts the rendering into blocks of N frames
 /// in place of the session's pattern, and changes no sample.

@@ -2,7 +2,7 @@
 
 ghost use Rattle.std.specs.Prelude.{◌≡◌, ◌≤◌, map};
 ghost use Rattle.std.specs.String.{string_bytes};
-ghost use Rattle.vh_host.specs.Words.{command_in, render_in, replay_in, check_in, behind_files, block_in};
+ghost use Rattle.vh_host.specs.Words.{command_in, render_in, replay_in, check_in, show_in, save_in, behind_files, block_in};
 ghost use Rattle.vh_host.specs.Named.{commanded};
 
 use vh_text::number;
@@ -19,12 +19,23 @@ pub(crate) struct Render<'a> {
     pub(crate) block: Option<u32>,
 }
 
+/// The preset of a session's node, and into which file it is saved.
+#[derive(Clone, Copy)]
+pub(crate) struct Save<'a> {
+    pub(crate) session: &'a str,
+    pub(crate) node: &'a str,
+    pub(crate) output: &'a str,
+}
+
 /// A command.
 #[derive(Clone, Copy)]
 pub(crate) enum Command<'a> {
     Render(Render<'a>),
     /// And the session's file.
     Check(&'a str),
+    /// And the preset's file.
+    PresetShow(&'a str),
+    PresetSave(Save<'a>),
 }
 
 /// `block=N`, with N from 1 to 8192.
@@ -92,6 +103,30 @@ fn read_check(words: &[String]) -> Option<Command<'_>>
     }
 }
 
+/// `FILE`.
+fn read_show(words: &[String]) -> Option<Command<'_>>
+    ensures { commanded result ≡ show_in (map string_bytes words.now) }
+{
+    match words {
+        [preset] => Some(Command::PresetShow(preset.as_str())),
+        _ => None,
+    }
+}
+
+/// `SESSION NODE OUT`.
+fn read_save(words: &[String]) -> Option<Command<'_>>
+    ensures { commanded result ≡ save_in (map string_bytes words.now) }
+{
+    match words {
+        [session, node, output] => Some(Command::PresetSave(Save {
+            session: session.as_str(),
+            node: node.as_str(),
+            output: output.as_str(),
+        })),
+        _ => None,
+    }
+}
+
 /// Reads the words of a command.
 pub(crate) fn read_words(words: &[String]) -> Option<Command<'_>>
     ensures { commanded result ≡ command_in (map string_bytes words.now) }
@@ -101,6 +136,8 @@ pub(crate) fn read_words(words: &[String]) -> Option<Command<'_>>
         "render" => read_render(rest),
         "replay" => read_replay(rest),
         "check" => read_check(rest),
+        "preset-show" => read_show(rest),
+        "preset-save" => read_save(rest),
         _ => None,
     }
 }

@@ -22,7 +22,8 @@ use Rattle.vh_session.specs.Keeps.{HasClass, has_bus, buses_of, StandsUnder}
 use Rattle.vh_session.specs.Lines.{has_aux}
 use Rattle.vh_session.specs.Rules.{class_named}
 use Rattle.vh_session.proofs.Named.{same_text, other_text}
-use Rattle.vh_instance.specs.Band.{Plan, class_number, class_at, code_at, is_node, is_side, has_side, Suits}
+use Rattle.vh_instance.specs.Plan.{Plan, class_number, class_at, code_at, component_at}
+use Rattle.vh_instance.specs.Band.{is_node, is_side, has_side, Suits}
 
 some_none : {A : Type 0} (x : A) → None ≢ Some x
 some_none x e = cc
@@ -139,3 +140,11 @@ module _ (plan : Plan) (stands : StandsUnder plan.infos plan.content) (node : �
       ap (λ (i : ClassInfo). i.aux) (is info) ∙ ap (λ (infos : List ClassInfo). (get_or infos class info).aux) others_same
       ∙ ap (λ (k : ℕ). (get_or plan.infos k info).aux) (number ∙ ap (λ (infos : List ClassInfo). class_number infos (node_at plan.content.nodes node).class_name) same)
       ∙ aux_is plan stands node lt laws info
+
+  -- and the identifier of its components
+  pub component_chosen : (classes others : List ClassInfo) (class : ℕ) (info : ClassInfo) → classes ≡ plan.infos → others ≡ plan.infos → class ≡ class_number classes (node_at plan.content.nodes node).class_name
+      → ((d : ClassInfo) → info ≡ get_or others class d) → info.component.0 ≡ component_at plan node
+  component_chosen classes others class info same others_same number is =
+      ap (λ (i : ClassInfo). i.component.0) (is info) ∙ ap (λ (infos : List ClassInfo). (get_or infos class info).component.0) others_same
+      ∙ ap (λ (k : ℕ). (get_or plan.infos k info).component.0) (number ∙ ap (λ (infos : List ClassInfo). class_number infos (node_at plan.content.nodes node).class_name) same)
+      ∙ sym (get_or-map (λ (i : ClassInfo). i.component.0) plan.infos (class_number plan.infos (node_at plan.content.nodes node).class_name) info [] (number_within plan.infos plan.content stands node lt))

@@ -63,19 +63,25 @@ undone_components n calls made ended work new_made new_ended new_work none made_
   work = work_is ∙ ap (λ (ns : List ℕ). raised_by_each ns work) (zeros calls none);
 }
 
--- so many controllers were
-pub undone_controllers : (n : ℕ) (made ended work new_made new_ended new_work : ℕ) → new_made ≡ raised_times n made → new_ended ≡ raised_times n ended → new_work ≡ work → IsUndone made ended work new_made new_ended new_work
-undone_controllers n made ended work new_made new_ended new_work made_is ended_is work_is = record { objects = n; made = made_is; ended = ended_is; components = 0; work = work_is }
+-- so many controllers were made, then others were made and ended, and then the controllers were ended
+pub undone_then : (n made ended work then_made then_ended then_work mid_made mid_ended mid_work new_made new_ended new_work : ℕ) → then_made ≡ raised_times n made → then_ended ≡ ended → then_work ≡ work → IsUndone then_made then_ended then_work mid_made mid_ended mid_work
+    → new_made ≡ mid_made → new_ended ≡ raised_times n mid_ended → new_work ≡ mid_work → IsUndone made ended work new_made new_ended new_work
+undone_then n made ended work then_made then_ended then_work mid_made mid_ended mid_work new_made new_ended new_work first kept same undone last_made last_ended last_work = record {
+  objects = n + undone.objects;
+  made = last_made ∙ undone.made ∙ ap (λ (k : ℕ). raised_times undone.objects k) first ∙ raised_both undone.objects n made ∙ ap (λ (k : ℕ). raised_times k made) (let e : undone.objects + n ≡ n + undone.objects = omega arith in e);
+  ended = last_ended ∙ ap (λ (k : ℕ). raised_times n k) (undone.ended ∙ ap (λ (k : ℕ). raised_times undone.objects k) kept) ∙ raised_both n undone.objects ended;
+  components = undone.components;
+  work = last_work ∙ undone.work ∙ ap (λ (k : ℕ). raised_by_each (replicate undone.components 0) k) same;
+}
 
--- components were made, controllers were made and ended, and then the components were ended
-pub undone_both : (n : ℕ) (calls : List ℕ) (made ended work then_made then_ended new_made mid_ended new_ended new_work : ℕ) → All (λ c. c ≡ 0) calls → then_made ≡ raised_times n made → then_ended ≡ ended → (controllers : ℕ) → new_made ≡ raised_times controllers then_made → mid_ended ≡ raised_times controllers then_ended → new_ended ≡ raised_times n mid_ended → new_work ≡ raised_by_each calls work
-    → IsUndone made ended work new_made new_ended new_work
-undone_both n calls made ended work then_made then_ended new_made mid_ended new_ended new_work none first kept controllers second undone last work_is = record {
-  objects = n + controllers;
-  made = second ∙ ap (λ (k : ℕ). raised_times controllers k) first ∙ raised_both controllers n made ∙ ap (λ (k : ℕ). raised_times k made) (let e : controllers + n ≡ n + controllers = omega arith in e);
-  ended = last ∙ ap (λ (k : ℕ). raised_times n k) (undone ∙ ap (λ (k : ℕ). raised_times controllers k) kept) ∙ raised_both n controllers ended;
-  components = length calls;
-  work = work_is ∙ ap (λ (ns : List ℕ). raised_by_each ns work) (zeros calls none);
+-- one was made and ended
+pub undone_one : (made ended work then_made then_ended new_made new_ended new_work : ℕ) → then_made ≡ raised made → then_ended ≡ ended → new_made ≡ then_made → new_ended ≡ raised then_ended → new_work ≡ work → IsUndone made ended work new_made new_ended new_work
+undone_one made ended work then_made then_ended new_made new_ended new_work first kept same last work_is = record {
+  objects = 1;
+  made = same ∙ first;
+  ended = last ∙ ap (λ (k : ℕ). raised k) kept;
+  components = 0;
+  work = work_is;
 }
 
 -- once more, and once less

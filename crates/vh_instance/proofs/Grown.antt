@@ -1,8 +1,9 @@
 -- A band grows by the instances of one node.
-use Rattle.std.proofs.Common.{◌≡◌, ℕ, ◌+◌, ◌<◌, List, [], ◌∷◌, ◌++◌, length, map, get_or, replicate, Vec, vec_capacity, refl, sym, ap, subst, ◌∙◌, arith}
+use Rattle.std.proofs.Common.{◌≡◌, ℕ, Option, ◌+◌, ◌<◌, List, [], ◌∷◌, ◌++◌, length, map, get_or, replicate, Vec, vec_capacity, refl, sym, ap, subst, ◌∙◌, arith}
 use Rattle.std.specs.Prelude.{All}
 use Rattle.std.specs.declared.alloc.Global.{Global}
-use Rattle.std.specs.List.{range_with_len}
+use Rattle.std.specs.List.{range_with_len, flat_map}
+use Rattle.std.specs.Option.{option_and_then}
 use Rattle.std.proofs.lemmas.List.{length-map, length-replicate, get_or-map, get_or-replicate, map_push, length_push}
 use Rattle.std.proofs.lemmas.List.Elements.{All-push, All-head, All-tail, All-cons, All-nil, All-same, All-map, All-weaker}
 use Rattle.vh_component.specs.declared.setup.Phase.{Phase}
@@ -16,12 +17,18 @@ use Rattle.vh_counted.specs.declared.object.Holder.{Holder}
 use Rattle.vh_counted.specs.declared.object.Opened.{Opened}
 use Rattle.vh_counted.specs.Held.{object_of, value_of_opened}
 use Rattle.vh_params.specs.declared.class.ClassInfo.{ClassInfo}
-use Rattle.vh_params.specs.Nodes.{node_at}
+use Rattle.vh_params.specs.Nodes.{nodes_of, node_at}
 use Rattle.vh_plugin.specs.Class.{Class}
-use Rattle.vh_session.specs.Content.{Content}
-use Rattle.vh_instance.specs.Firsts.{firsts_at}
+use Rattle.vh_preset.specs.declared.preset.Preset.{Preset}
+use Rattle.vh_session.specs.declared.session.Session.{Session}
+use Rattle.vh_session.specs.Names.{content_of}
+use Rattle.vh_instance.specs.Plan.{Plan, plan_for, class_number, code_at, class_at, component_at, preset_at}
+use Rattle.vh_instance.specs.Presets.{mode_at, preset_refusal, refusal_at, AreAccepted, IsFirstRefused, IsCauseAt, IsCause}
+use Rattle.vh_instance.specs.declared.refused.MakeRefused.{MakeRefused}
+use Rattle.vh_instance.specs.declared.refused.MakeRefused.TheVariants.{Preset as OfPreset, Memory}
+use Rattle.vh_instance.specs.Firsts.{firsts_under, firsts_at, first_values}
 use Rattle.vh_instance.specs.Seats.{Seat, opener_seat, processor_seat, holder_seat, row_seats, pushed_rows, ArePushed, AreEmpty, HaveRoom, AreTogether, AreHeld, Has}
-use Rattle.vh_instance.specs.Band.{ProcessorMeaning, ControllerMeaning, Plan, class_number, code_at, class_at, mode_at, has_side, node_buses, buses_at, IsSetFor, objects_of, IsComponent, AreComponents, IsController, AreControllers, component_table, component_object, controller_table, controller_object, kept_beside, kept_by_editor}
+use Rattle.vh_instance.specs.Band.{ProcessorMeaning, ControllerMeaning, by_node, of_processors, has_side, node_buses, buses_at, IsSetFor, objects_of, IsComponent, AreComponents, IsController, AreControllers, component_table, component_object, controller_table, controller_object, kept_beside, kept_by_editor}
 use Rattle.vh_instance.proofs.Pushes.{pushed_map, pushed_all, held_pushed}
 
 pushed_length : (seats : List Seat) (rows : List (List Seat)) → length seats ≡ length rows → length (pushed_rows seats rows) ≡ length rows
@@ -38,29 +45,64 @@ pushed_each P (seat ∷ seats) (row ∷ rows) same all each =
     All-cons (λ (row : List Seat). All P row) (row ++ seat ∷ []) (pushed_rows seats rows) (All-push P row seat (All-head (λ (row : List Seat). All P row) row rows each) (All-head P seat seats all))
     (pushed_each P seats rows (omega (arith, same)) (All-tail P seat seats all) (All-tail (λ (row : List Seat). All P row) row rows each))
 
+map_same : {A : Type 0} (f g : ℕ → A) → ((k : ℕ) → f k ≡ g k) → (ks : List ℕ) → map f ks ≡ map g ks
+map_same f g same [] = refl
+map_same f g same (k ∷ ks) = ap (λ x. x ∷ map f ks) (same k) ∙ ap (λ xs. g k ∷ xs) (map_same f g same ks)
+
+flat_same : (f g : ℕ → List ℕ) → ((k : ℕ) → f k ≡ g k) → (ks : List ℕ) → flat_map f ks ≡ flat_map g ks
+flat_same f g same [] = refl
+flat_same f g same (k ∷ ks) = ap (λ (xs : List ℕ). xs ++ flat_map f ks) (same k) ∙ ap (λ (xs : List ℕ). g k ++ xs) (flat_same f g same ks)
+
 -- plans of a set before and after calls that keep its classes and codes
-module _ (content : Content) (infos others : List ClassInfo) (code other : ℕ → ℕ) (class_of : ℕ → Class) (max : ℕ) (same_infos : others ≡ infos) (same_codes : (class : ℕ) → other class ≡ code class) where
+module _ (session : Session) (presets : List (Option Preset)) (infos others : List ClassInfo) (code other : ℕ → ℕ) (class_of : ℕ → Class) (max : ℕ) (same_infos : others ≡ infos) (same_codes : (class : ℕ) → other class ≡ code class) where
   abbrev pub now : Plan
-  now = record { content = content; infos = infos; code = code; class_of = class_of; max = max }
+  now = plan_for infos code class_of session presets max
 
   abbrev pub later : Plan
-  later = record { content = content; infos = others; code = other; class_of = class_of; max = max }
+  later = plan_for others other class_of session presets max
 
-  code_same : (node : ℕ) → code_at later node ≡ code_at now node
-  code_same node = same_codes (class_number others (node_at content.nodes node).class_name) ∙ ap (λ (list : List ClassInfo). code (class_number list (node_at content.nodes node).class_name)) same_infos
+  pub code_same : (node : ℕ) → code_at later node ≡ code_at now node
+  code_same node = same_codes (class_number others (node_at (nodes_of session.nodes) node).class_name) ∙ ap (λ (list : List ClassInfo). code (class_number list (node_at (nodes_of session.nodes) node).class_name)) same_infos
+
+  pub firsts_same : (node : ℕ) → firsts_at later node ≡ firsts_at now node
+  firsts_same node = ap (λ (c : ℕ). firsts_under (class_of c) (preset_at now node) session.firsts.items node) (code_same node)
+
+  pub refusal_same : (node : ℕ) → refusal_at later node ≡ refusal_at now node
+  refusal_same node =
+      let component : component_at later node ≡ component_at now node =
+      ap (λ (list : List ClassInfo). get_or (map (λ (info : ClassInfo). info.component.0) list) (class_number list (node_at (nodes_of session.nodes) node).class_name) []) same_infos in
+      ap (λ (c : ℕ). option_and_then (preset_refusal (class_of c) (component_at later node)) (preset_at now node)) (code_same node)
+      ∙ ap (λ (id : List ℕ). option_and_then (preset_refusal (class_at now node) id) (preset_at now node)) component
+
+  pub codes_same : (count : ℕ) → by_node count (code_at later) ≡ by_node count (code_at now)
+  codes_same count = map_same (code_at later) (code_at now) code_same (range_with_len 0 count)
+
+  pub values_same : (count : ℕ) → by_node count (firsts_at later) ≡ by_node count (firsts_at now)
+  values_same count = map_same (firsts_at later) (firsts_at now) firsts_same (range_with_len 0 count)
+
+  pub first_same : first_values later ≡ first_values now
+  first_same = flat_same (firsts_at later) (firsts_at now) firsts_same (range_with_len 0 (length (nodes_of session.nodes)))
+
+  -- the cause at a node before which all presets are accepted
+  pub first_cause : (node : ℕ) (refused : MakeRefused) → node < length (nodes_of session.nodes) → AreAccepted now node → IsCauseAt later node refused → IsCause now refused
+  first_cause node (OfPreset other kind) within accepted cause =
+      let IsFirst : ℕ → Type 0 = λ n. IsFirstRefused now n kind in
+      subst IsFirst (sym cause.0) (record { within = within; refused = sym (refusal_same node) ∙ cause.1; first = accepted })
+  first_cause node Memory within accepted cause = tt
 
   module _ {P : Type 0} (meant : ProcessorMeaning P) where
     pub grown_components : (count : ℕ) (components : List (Counted P)) (processors : List (Processing P)) (component : Counted P) (processor : Processing P) → AreComponents meant now count components processors → IsComponent meant later count component processor
         → AreComponents meant now (count + 1) (components ++ component ∷ []) (processors ++ processor ∷ [])
     grown_components count components processors component processor are is =
         let same = code_same count in
+        let content = content_of session in
         let setup : IsSetFor now (meant.setup (value_of_opened (of_processing processor))) = record { channels = is.setup.channels; max = is.setup.max } in
         let held : AreHeld (objects_of components ++ object_of component ∷ []) ((map processor_seat processors ++ processor_seat processor ∷ []) ∷ []) =
         held_pushed (objects_of components) (object_of component) (processor_seat processor ∷ []) (map processor_seat processors ∷ []) refl are.held is.held in
         record {
           size = length_push components component ∙ ap (λ (n : ℕ). n + 1) are.size;
           codes = pushed_map (λ (processor : Processing P). meant.code (value_of_opened (of_processing processor))) (code_at now) processors processor count are.codes (is.code ∙ same);
-          values = pushed_map (λ (processor : Processing P). meant.values (value_of_opened (of_processing processor))) (firsts_at content) processors processor count are.values is.values;
+          values = pushed_map (λ (processor : Processing P). meant.values (value_of_opened (of_processing processor))) (firsts_at now) processors processor count are.values (is.values ∙ firsts_same count);
           states = pushed_map (λ (processor : Processing P). meant.state (value_of_opened (of_processing processor))) (λ node. (class_at now node).start) processors processor count are.states (is.state ∙ ap (λ (c : ℕ). (class_of c).start) same);
           calls = pushed_all (λ (calls : ℕ). calls ≡ 0) (λ (processor : Processing P). meant.calls (value_of_opened (of_processing processor))) processors processor are.calls is.calls;
           phases = pushed_all (λ (phase : Phase). phase ≡ AtProcessing) (λ (processor : Processing P). meant.phase (value_of_opened (of_processing processor))) processors processor are.phases is.phase;
@@ -79,6 +121,7 @@ module _ (content : Content) (infos others : List ClassInfo) (code other : ℕ �
         → AreControllers meant now (count + 1) (controllers ++ controller ∷ []) (edits ++ edit ∷ []) new
     grown_controllers count controllers edits rows new controller made edit seats are is value references pushed has together =
         let same = code_same count in
+        let content = content_of session in
         let old = map row_seats rows in
         let held : AreHeld (objects_of controllers ++ object_of controller ∷ []) ((map opener_seat edits ++ opener_seat edit ∷ []) ∷ pushed_rows seats old) =
         held_pushed (objects_of controllers) (object_of controller) (opener_seat edit ∷ seats) (map opener_seat edits ∷ old) (let each = pushed.each in omega (arith, each)) are.held together in
@@ -87,7 +130,7 @@ module _ (content : Content) (infos others : List ClassInfo) (code other : ℕ �
         record {
           size = length_push controllers controller ∙ ap (λ (n : ℕ). n + 1) are.size;
           codes = pushed_map (λ (edit : Opened C). meant.code (value_of_opened edit)) (code_at now) edits edit count are.codes (ap meant.code value ∙ is.code ∙ same);
-          values = pushed_map (λ (edit : Opened C). meant.values (value_of_opened edit)) (firsts_at content) edits edit count are.values (ap meant.values value ∙ is.values);
+          values = pushed_map (λ (edit : Opened C). meant.values (value_of_opened edit)) (firsts_at now) edits edit count are.values (ap meant.values value ∙ is.values ∙ firsts_same count);
           modes = pushed_map (λ (edit : Opened C). meant.mode (value_of_opened edit)) (mode_at now) edits edit count are.modes (ap meant.mode value ∙ is.mode);
           objects = pushed_all (λ (object : Object). object ≡ controller_object (length content.scripts)) (λ (controller : Counted C). object_of controller) controllers controller are.objects is.object;
           references = pushed_all (Has controller_table (kept_beside 0) 0) (λ (edit : Opened C). opener_seat edit) edits edit are.references references;
@@ -154,22 +197,24 @@ rows_room {C} seats openers rows editors count held capacities lt = λ k d withi
     let capacity : vec_capacity (get_or rows k d) ≡ count = sym (get_or-map (λ (row : Vec (Holder C) Global). vec_capacity row) rows k d (vec_capacity d) within) ∙ ap (λ (ns : List ℕ). get_or ns k (vec_capacity d)) capacities ∙ get_or-replicate editors k count (vec_capacity d) here in
     omega (arith, size, capacity, lt, length-map (get_or rows k d).items (λ (holder : Holder C). holder_seat holder))
 
-map_same : {A : Type 0} (f g : ℕ → A) → ((k : ℕ) → f k ≡ g k) → (ks : List ℕ) → map f ks ≡ map g ks
-map_same f g same [] = refl
-map_same f g same (k ∷ ks) = ap (λ x. x ∷ map f ks) (same k) ∙ ap (λ xs. g k ∷ xs) (map_same f g same ks)
-
--- controllers that were made behind such calls
-module _ (content : Content) (infos others : List ClassInfo) (code other : ℕ → ℕ) (class_of : ℕ → Class) (max : ℕ) (same_infos : others ≡ infos) (same_codes : (class : ℕ) → other class ≡ code class) where
-  pub controllers_then : {C : Type 0} (meant : ControllerMeaning C) (count : ℕ) (controllers : List (Counted C)) (edits : List (Opened C)) (rows : List (Vec (Holder C) Global)) → AreControllers meant (later content infos others code other class_of max same_infos same_codes) count controllers edits rows
-      → AreControllers meant (now content infos others code other class_of max same_infos same_codes) count controllers edits rows
-  controllers_then meant count controllers edits rows are = record {
-    size = are.size;
-    codes = are.codes ∙ map_same (code_at (later content infos others code other class_of max same_infos same_codes)) (code_at (now content infos others code other class_of max same_infos same_codes)) (code_same content infos others code other class_of max same_infos same_codes) (range_with_len 0 count);
-    values = are.values;
-    modes = are.modes;
-    objects = are.objects;
-    references = are.references;
-    editors = are.editors;
-    holders = are.holders;
-    held = are.held;
-  }
+-- components that were made behind such calls
+module _ (session : Session) (presets : List (Option Preset)) (infos others : List ClassInfo) (code other : ℕ → ℕ) (class_of : ℕ → Class) (max : ℕ) (same_infos : others ≡ infos) (same_codes : (class : ℕ) → other class ≡ code class) where
+  pub components_then : {P : Type 0} (meant : ProcessorMeaning P) (count : ℕ) (components : List (Counted P)) (processors : List (Processing P)) → AreComponents meant (later session presets infos others code other class_of max same_infos same_codes) count components processors
+      → AreComponents meant (now session presets infos others code other class_of max same_infos same_codes) count components processors
+  components_then {P} meant count components processors are =
+      let before = now session presets infos others code other class_of max same_infos same_codes in
+      let behind = later session presets infos others code other class_of max same_infos same_codes in
+      let same = code_same session presets infos others code other class_of max same_infos same_codes in
+      record {
+        size = are.size;
+        codes = are.codes ∙ codes_same session presets infos others code other class_of max same_infos same_codes count;
+        values = are.values ∙ values_same session presets infos others code other class_of max same_infos same_codes count;
+        states = are.states ∙ map_same (λ (node : ℕ). (class_at behind node).start) (λ (node : ℕ). (class_at before node).start) (λ node. ap (λ (c : ℕ). (class_of c).start) (same node)) (range_with_len 0 count);
+        calls = are.calls;
+        phases = are.phases;
+        setups = All-weaker (IsSetFor behind) (IsSetFor before) (λ setup is. record { channels = is.channels; max = is.max }) (of_processors meant.setup processors) are.setups;
+        buses = are.buses ∙ map_same (buses_at behind) (buses_at before) (λ node. ap (λ (c : ℕ). node_buses session.channels (class_of c).aux (has_side session.wires.items node)) (same node)) (range_with_len 0 count);
+        objects = are.objects;
+        references = are.references;
+        held = are.held;
+      }

@@ -6,6 +6,11 @@ pub mod Within
 pub mod Classes
 pub mod Places
 pub mod Parted
+pub mod Nodes
+pub mod Loaded
 pub mod Settings
+pub mod Lawful
+pub mod Plain
+pub mod Saved
 pub mod Grown
 pub mod Making

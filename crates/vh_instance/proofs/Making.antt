@@ -11,9 +11,11 @@ use Rattle.vh_counted.specs.declared.object.Counted.{Counted}
 use Rattle.vh_counted.specs.declared.object.Opened.{Opened}
 use Rattle.vh_counted.specs.Held.{object_of, object_of_opened, numbers_of_opened, value_of_opened}
 use Rattle.vh_counted.specs.Objects.{IsWhole}
+use Rattle.vh_instance.specs.Plan.{Plan, code_at, class_at}
+use Rattle.vh_instance.specs.Presets.{mode_at}
 use Rattle.vh_instance.specs.Firsts.{firsts_at}
 use Rattle.vh_instance.specs.Seats.{Seat, opener_seat, processor_seat, AreTogether, Has}
-use Rattle.vh_instance.specs.Band.{ProcessorMeaning, ControllerMeaning, Plan, code_at, class_at, mode_at, buses_at, IsSetFor, IsComponent, IsController, component_table, component_object, controller_table, controller_object, kept_beside}
+use Rattle.vh_instance.specs.Band.{ProcessorMeaning, ControllerMeaning, buses_at, IsSetFor, IsComponent, IsController, component_table, component_object, controller_table, controller_object, kept_beside}
 
 -- an object of these numbers
 pub object_is : (object : Object) (interfaces cap : ℕ) → object.interfaces ≡ interfaces → object.cap ≡ cap → object ≡ record { interfaces = interfaces; cap = cap }
@@ -28,7 +30,7 @@ pub alone : (object : Object) (seat : Seat) → seat.object ≡ object → IsWho
 alone object seat of whole = record { of = All-cons (λ (s : Seat). s.object ≡ object) seat [] of (All-nil (λ (s : Seat). s.object ≡ object)); whole = whole }
 
 module _ {P : Type 0} (meant : ProcessorMeaning P) (plan : Plan) (node : ℕ) (component : Counted P) (opener : Opened P) (processor : Processing P) where
-  pub component_made : meant.code (value_of_opened (of_processing processor)) ≡ code_at plan node → meant.values (value_of_opened (of_processing processor)) ≡ firsts_at plan.content node → meant.state (value_of_opened (of_processing processor)) ≡ (class_at plan node).start → meant.calls (value_of_opened (of_processing processor)) ≡ 0
+  pub component_made : meant.code (value_of_opened (of_processing processor)) ≡ code_at plan node → meant.values (value_of_opened (of_processing processor)) ≡ firsts_at plan node → meant.state (value_of_opened (of_processing processor)) ≡ (class_at plan node).start → meant.calls (value_of_opened (of_processing processor)) ≡ 0
       → meant.phase (value_of_opened (of_processing processor)) ≡ AtProcessing → IsSetFor plan (meant.setup (value_of_opened (of_processing processor))) → buses_of (layout_of_processing processor) ≡ buses_at plan node → processor_seat processor ≡ opener_seat opener
       → object_of component ≡ component_object → Has component_table (λ interface. 1) 0 (opener_seat opener) → object_of_opened opener ≡ object_of component → IsWhole 4 (numbers_of_opened opener)
       → IsComponent meant plan node component processor
@@ -48,7 +50,7 @@ module _ {P : Type 0} (meant : ProcessorMeaning P) (plan : Plan) (node : ℕ) (c
       }
 
 module _ {C : Type 0} (meant : ControllerMeaning C) (plan : Plan) (node : ℕ) (controller : Counted C) (edit : Opened C) where
-  pub controller_made : meant.code (value_of_opened edit) ≡ code_at plan node → meant.values (value_of_opened edit) ≡ firsts_at plan.content node → meant.mode (value_of_opened edit) ≡ mode_at plan node
+  pub controller_made : meant.code (value_of_opened edit) ≡ code_at plan node → meant.values (value_of_opened edit) ≡ firsts_at plan node → meant.mode (value_of_opened edit) ≡ mode_at plan node
       → object_of controller ≡ controller_object (length plan.content.scripts) → Has controller_table (kept_beside (2 * length plan.content.scripts)) (64 * length plan.content.scripts) (opener_seat edit)
       → object_of_opened edit ≡ object_of controller → IsWhole (2 + 66 * length plan.content.scripts) (numbers_of_opened edit)
       → IsController meant plan node controller edit

@@ -1,8 +1,7 @@
 -- What a band of a session is.
 use Rattle.std.specs.Prelude.{◌≡◌, ℕ, ◌<◌, ◌+◌, ◌*◌, ◌==◌, ◌&&◌, Bool, true, false, List, [], ◌∷◌, length, map, All, if◌then◌else◌, Vec}
 use Rattle.std.specs.declared.alloc.Global.{Global}
-use Rattle.std.specs.List.{range_with_len, list_any, position_or_len}
-use Rattle.std.specs.Str.{bytes_eq}
+use Rattle.std.specs.List.{range_with_len, list_any}
 use Rattle.vh_component.specs.declared.layout.BusInfo.{BusInfo}
 use Rattle.vh_component.specs.declared.setup.Phase.{Phase}
 use Rattle.vh_component.specs.declared.setup.Phase.TheVariants.{Processing as AtProcessing}
@@ -18,15 +17,14 @@ use Rattle.vh_counted.specs.declared.object.Opened.{Opened}
 use Rattle.vh_counted.specs.Held.{object_of, value_of_opened}
 use Rattle.vh_ids.specs.declared.interface.Interface.{Interface}
 use Rattle.vh_ids.specs.declared.interface.Interface.TheVariants.{Unknown, PluginBase, Component, AudioProcessor, EditController, ConnectionPoint}
-use Rattle.vh_params.specs.declared.class.ClassInfo.{ClassInfo}
 use Rattle.vh_params.specs.Nodes.{node_at}
-use Rattle.vh_params.specs.Short.{label_text}
-use Rattle.vh_plugin.specs.Class.{Class, State, param_of}
+use Rattle.vh_plugin.specs.Class.{State, param_of}
 use Rattle.vh_session.specs.declared.wire.End.{End}
 use Rattle.vh_session.specs.declared.wire.End.TheVariants.{In, Out, Node as AtNode}
 use Rattle.vh_session.specs.declared.wire.Wire.{Wire}
-use Rattle.vh_session.specs.Content.{Content}
 use Rattle.vh_instance.specs.declared.band.Band.{Band}
+pub use Rattle.vh_instance.specs.Plan.{Plan, code_at, class_at}
+use Rattle.vh_instance.specs.Presets.{mode_at}
 use Rattle.vh_instance.specs.Firsts.{firsts_at, first_values}
 use Rattle.vh_instance.specs.Seats.{opener_seat, processor_seat, row_seats, AreTogether, AreHeld, Has}
 
@@ -43,30 +41,6 @@ pub record ControllerMeaning (C : Type 0) : Type 0 where
   pub code : C → ℕ
   pub values : C → List ℕ
   pub mode : C → ℕ
-
--- what a band is made for: a session under the classes of a set, the codes of these and what a code means, and blocks of
--- at most so many samples
-pub record Plan : Type 0 where
-  pub content : Content
-  pub infos : List ClassInfo
-  pub code : ℕ → ℕ
-  pub class_of : ℕ → Class
-  pub max : ℕ
-
--- the number of the class of a name, the first where there are several
-abbrev pub class_number : List ClassInfo → List ℕ → ℕ
-class_number infos name = position_or_len (λ class. bytes_eq (label_text class.name) name) infos
-
--- the code of a node's class, and what it means
-abbrev pub code_at : Plan → ℕ → ℕ
-code_at plan node = plan.code (class_number plan.infos (node_at plan.content.nodes node).class_name)
-
-abbrev pub class_at : Plan → ℕ → Class
-class_at plan node = plan.class_of (code_at plan node)
-
--- how a node's controller shows its values
-abbrev pub mode_at : Plan → ℕ → ℕ
-mode_at plan node = 0
 
 -- an end of a wire is this node
 abbrev pub is_node : ℕ → End → Bool
@@ -129,7 +103,7 @@ controller_object editors = record { interfaces = 4; cap = 2 + 66 * editors }
 -- processing; its opener has one reference at each of its interfaces.
 pub record IsComponent {P : Type 0} (meant : ProcessorMeaning P) (plan : Plan) (node : ℕ) (component : Counted P) (processor : Processing P) : Type 0 where
   pub code : meant.code (value_of_opened (of_processing processor)) ≡ code_at plan node
-  pub values : meant.values (value_of_opened (of_processing processor)) ≡ firsts_at plan.content node
+  pub values : meant.values (value_of_opened (of_processing processor)) ≡ firsts_at plan node
   pub state : meant.state (value_of_opened (of_processing processor)) ≡ (class_at plan node).start
   pub calls : meant.calls (value_of_opened (of_processing processor)) ≡ 0
   pub phase : meant.phase (value_of_opened (of_processing processor)) ≡ AtProcessing
@@ -143,7 +117,7 @@ pub record IsComponent {P : Type 0} (meant : ProcessorMeaning P) (plan : Plan) (
 pub record AreComponents {P : Type 0} (meant : ProcessorMeaning P) (plan : Plan) (count : ℕ) (components : List (Counted P)) (processors : List (Processing P)) : Type 0 where
   pub size : length components ≡ count
   pub codes : of_processors meant.code processors ≡ by_node count (code_at plan)
-  pub values : of_processors meant.values processors ≡ by_node count (firsts_at plan.content)
+  pub values : of_processors meant.values processors ≡ by_node count (firsts_at plan)
   pub states : of_processors meant.state processors ≡ by_node count (λ node. (class_at plan node).start)
   pub calls : All (λ calls. calls ≡ 0) (of_processors meant.calls processors)
   pub phases : All (λ phase. phase ≡ AtProcessing) (of_processors meant.phase processors)
@@ -169,7 +143,7 @@ kept_by_editor _ = 0
 -- and in its mode, and its opener has two references and 64 adds for each editor.
 pub record IsController {C : Type 0} (meant : ControllerMeaning C) (plan : Plan) (node : ℕ) (controller : Counted C) (edit : Opened C) : Type 0 where
   pub code : meant.code (value_of_opened edit) ≡ code_at plan node
-  pub values : meant.values (value_of_opened edit) ≡ firsts_at plan.content node
+  pub values : meant.values (value_of_opened edit) ≡ firsts_at plan node
   pub mode : meant.mode (value_of_opened edit) ≡ mode_at plan node
   pub object : object_of controller ≡ controller_object (length plan.content.scripts)
   pub references : Has controller_table (kept_beside (2 * length plan.content.scripts)) (64 * length plan.content.scripts) (opener_seat edit)
@@ -180,7 +154,7 @@ pub record IsController {C : Type 0} (meant : ControllerMeaning C) (plan : Plan)
 pub record AreControllers {C : Type 0} (meant : ControllerMeaning C) (plan : Plan) (count : ℕ) (controllers : List (Counted C)) (edits : List (Opened C)) (rows : List (Vec (Holder C) Global)) : Type 0 where
   pub size : length controllers ≡ count
   pub codes : of_openers meant.code edits ≡ by_node count (code_at plan)
-  pub values : of_openers meant.values edits ≡ by_node count (firsts_at plan.content)
+  pub values : of_openers meant.values edits ≡ by_node count (firsts_at plan)
   pub modes : of_openers meant.mode edits ≡ by_node count (mode_at plan)
   pub objects : All (λ object. object ≡ controller_object (length plan.content.scripts)) (objects_of controllers)
   pub references : All (Has controller_table (kept_beside 0) 0) (map opener_seat edits)
@@ -193,7 +167,7 @@ pub record IsBand {P C : Type 0} (processing : ProcessorMeaning P) (controlling 
   pub suited : (node : ℕ) → node < length plan.content.nodes → Suits plan node
   pub components : AreComponents processing plan (length plan.content.nodes) band.components.items band.processors.items
   pub controllers : AreControllers controlling plan (length plan.content.nodes) band.controllers.items band.edits.items band.holders.items
-  pub first : band.first.items ≡ first_values plan.content
+  pub first : band.first.items ≡ first_values plan
 
 -- the holders of all objects of a band are together whole, object by object
 pub record IsHeld {P C : Type 0} (band : Band P C) : Type 0 where

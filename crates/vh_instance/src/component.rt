@@ -1,6 +1,6 @@
 //! Components are made.
 
-ghost use Rattle.std.specs.Prelude.{◌≡◌, ◌≤◌, ◌<◌, ℕ, length, OnOk, OnErr, IfOk, MatchResult};
+ghost use Rattle.std.specs.Prelude.{◌≡◌, ◌≤◌, ◌<◌, ℕ, length, None, OnOk, OnErr, IfOk, MatchResult};
 ghost use Rattle.vh_component.specs.declared.setup.Phase.TheVariants.{Created as AtCreated, Initialized as AtInitialized, Processing as AtProcessing};
 ghost use Rattle.vh_component.specs.Layouts.{buses_of};
 ghost use Rattle.vh_component.specs.States.{of_initialized, of_processing, layout_of, layout_of_processing, IsStep};
@@ -14,24 +14,30 @@ ghost use Rattle.vh_counted.specs.Objects.{IsWhole};
 ghost use Rattle.vh_counted.specs.Steps.{first_numbers};
 ghost use Rattle.vh_plugin.specs.Counts.{raised};
 ghost use Rattle.vh_instance.specs.Seats.{opener_seat, processor_seat, Has};
-ghost use Rattle.vh_instance.specs.Band.{IsComponent, AreComponents, component_table, component_object, class_number, is_side, has_side, node_buses};
+ghost use Rattle.vh_instance.specs.Plan.{plan_for, class_number, code_at};
+ghost use Rattle.vh_instance.specs.Presets.{AreAccepted, refusal_at};
+ghost use Rattle.vh_instance.specs.Firsts.{firsts_at, first_values};
+ghost use Rattle.vh_instance.specs.Band.{IsComponent, AreComponents, component_table, component_object, is_side, has_side, node_buses, of_openers, by_node};
 
 use crate::end::end_components;
-use crate::firsts::add_firsts;
+use crate::firsts::{add_values, values_of};
+use crate::presets::load_component;
 use crate::references::add_reference;
 use std::alloc::{AllocError, Global};
 use vh_component::{Created, Initialized, Layout, Life, Processing, Setup};
 use vh_counted::{Counted, Opened, Shell};
 use vh_ids::Interface;
 use vh_params::Classes;
-use vh_plugin::{PluginSet, Processor};
+use vh_plugin::{Controller, PluginSet, Processor};
+use vh_preset::Preset;
 use vh_query::Interfaces;
 use vh_session::{End, Session, Wire};
 
-/// Components, and their openers, which process.
+/// Components, their openers, which process, and the first values, node by node.
 pub(crate) struct Components<P> {
     pub(crate) components: Vec<Counted<P>>,
     pub(crate) processors: Vec<Processing<P>>,
+    pub(crate) first: Vec<u32>,
 }
 
 /// The number of a node's class.
@@ -118,21 +124,27 @@ fn start<P: Processor + Drop>(
     initialized.set_up(setup).activate().start()
 }
 
-/// Makes the component of a node, at its first values, and brings it to processing.
+/// Makes the component of a node, at the first values that its controller has, and brings it to processing.
 fn make_component<S: PluginSet>(
     alloc: Global,
     set: &mut S,
     session: &Session,
+    presets: &[Option<Preset>],
     node: u32,
+    controller: &S::C,
     max: u32,
 ) -> Result<(Counted<S::P>, Processing<S::P>), AllocError>
     requires node { node < length (nodes_of session.now.nodes) }
     requires stands { StandsUnder (S.infos set.old) (content_of session.now) }
+    requires presets { length presets.now ≡ length (nodes_of session.now.nodes) }
     requires some { 1 ≤ max }
     requires most { max ≤ 8192 }
+    requires accepted { refusal_at (plan_for (S.infos set.old) (S.code set.old) S.P.Processor.class_of session.now presets.now max) node ≡ None }
+    requires code { S.C.Controller.code controller.now ≡ code_at (plan_for (S.infos set.old) (S.code set.old) S.P.Processor.class_of session.now presets.now max) node }
+    requires values { S.C.Controller.values controller.now ≡ firsts_at (plan_for (S.infos set.old) (S.code set.old) S.P.Processor.class_of session.now presets.now max) node }
     ensures component { IfOk result (λ made. IsComponent
         (record { code = S.P.Processor.code; values = S.P.Processor.values; state = S.P.Processor.state; calls = S.P.Processor.calls; phase = S.P.Life.phase; setup = S.P.Life.last_setup })
-        (record { content = content_of session.now; infos = S.infos set.old; code = S.code set.old; class_of = S.P.Processor.class_of; max = max })
+        (plan_for (S.infos set.old) (S.code set.old) S.P.Processor.class_of session.now presets.now max)
         node made.0 made.1) }
     ensures made { OnOk result (S.made set.new ≡ raised (S.made set.old)) }
     ensures unmade { OnErr result (S.made set.new ≡ S.made set.old) }
@@ -142,11 +154,12 @@ fn make_component<S: PluginSet>(
     ensures codes { (class : ℕ) → S.code set.new class ≡ S.code set.old class }
 {
     let mut values = Vec::new(alloc);
-    add_firsts(session, node, &mut values)?;
+    add_values(controller, session.nodes.table(node).params(), &mut values)?;
     let class = class_of_node(set.classes(), session, node);
     let aux = set.classes().info(class).aux;
     let shell = Shell::new(alloc, 5, 4)?;
     let mut processor = set.create_component(alloc, class)?;
+    load_component(&mut processor, presets[node as usize].as_ref());
     processor.set_first(&values);
     let (object, mut opener) = shell.fill(processor);
     find_interfaces(&object, &mut opener);
@@ -158,20 +171,28 @@ fn make_component<S: PluginSet>(
     Ok((object, start(opener, aux, reached, &setup)))
 }
 
-/// Makes the components of a session's nodes. After want of memory those that were made are ended.
+/// Makes the components of a session's nodes, of which these are the controllers' openers. After want of memory
+/// those that were made are ended.
 pub(crate) fn make_components<S: PluginSet>(
     alloc: Global,
     set: &mut S,
     session: &Session,
+    presets: &[Option<Preset>],
+    edits: &[Opened<S::C>],
     max: u32,
 ) -> Result<Components<S::P>, AllocError>
     requires stands { StandsUnder (S.infos set.old) (content_of session.now) }
+    requires presets { length presets.now ≡ length (nodes_of session.now.nodes) }
     requires some { 1 ≤ max }
     requires most { max ≤ 8192 }
+    requires accepted { AreAccepted (plan_for (S.infos set.old) (S.code set.old) S.P.Processor.class_of session.now presets.now max) (length (nodes_of session.now.nodes)) }
+    requires codes { of_openers S.C.Controller.code edits.now ≡ by_node (length (nodes_of session.now.nodes)) (code_at (plan_for (S.infos set.old) (S.code set.old) S.P.Processor.class_of session.now presets.now max)) }
+    requires values { of_openers S.C.Controller.values edits.now ≡ by_node (length (nodes_of session.now.nodes)) (firsts_at (plan_for (S.infos set.old) (S.code set.old) S.P.Processor.class_of session.now presets.now max)) }
     ensures components { IfOk result (λ made. AreComponents
         (record { code = S.P.Processor.code; values = S.P.Processor.values; state = S.P.Processor.state; calls = S.P.Processor.calls; phase = S.P.Life.phase; setup = S.P.Life.last_setup })
-        (record { content = content_of session.now; infos = S.infos set.old; code = S.code set.old; class_of = S.P.Processor.class_of; max = max })
+        (plan_for (S.infos set.old) (S.code set.old) S.P.Processor.class_of session.now presets.now max)
         (length (nodes_of session.now.nodes)) made.components.items made.processors.items) }
+    ensures first { IfOk result (λ made. made.first.items ≡ first_values (plan_for (S.infos set.old) (S.code set.old) S.P.Processor.class_of session.now presets.now max)) }
     ensures made { OnOk result (S.made set.new ≡ raised_times (length (nodes_of session.now.nodes)) (S.made set.old)) }
     ensures kept { OnOk result (S.ended set.new ≡ S.ended set.old) }
     ensures refused { OnErr result (IsUndone (S.made set.old) (S.ended set.old) (S.work set.old) (S.made set.new) (S.ended set.new) (S.work set.new)) }
@@ -180,6 +201,7 @@ pub(crate) fn make_components<S: PluginSet>(
     ensures codes { (class : ℕ) → S.code set.new class ≡ S.code set.old class }
 {
     let count = session.nodes.len();
+    let first = values_of(alloc, session, edits)?;
     let mut components = Vec::with_capacity(alloc, count as usize)?;
     let mut processors = match Vec::with_capacity(alloc, count as usize) {
         Ok(processors) => processors,
@@ -189,7 +211,8 @@ pub(crate) fn make_components<S: PluginSet>(
         }
     };
     for node in 0..count {
-        match make_component(alloc, set, session, node, max) {
+        let controller = edits[node as usize].value();
+        match make_component(alloc, set, session, presets, node, controller, max) {
             Ok((object, processor)) => {
                 components.push_reserved(object);
                 processors.push_reserved(processor);
@@ -203,5 +226,6 @@ pub(crate) fn make_components<S: PluginSet>(
     Ok(Components {
         components,
         processors,
+        first,
     })
 }

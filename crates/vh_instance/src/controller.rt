@@ -1,28 +1,30 @@
 //! Controllers are made.
 
-ghost use Rattle.std.specs.Prelude.{◌≡◌, ◌≤◌, ◌<◌, ◌+◌, ◌*◌, ℕ, [], ◌∷◌, List, All, length, map, replicate, vec_capacity, OnOk, OnErr, IfOk, MatchResult};
+ghost use Rattle.std.specs.Prelude.{◌≡◌, ◌≤◌, ◌<◌, ◌+◌, ◌*◌, ℕ, [], ◌∷◌, List, All, length, map, replicate, vec_capacity, None, OnOk, OnErr, IfOk, IfErr, MatchResult};
 ghost use Rattle.vh_params.specs.ClassList.{classes_of};
 ghost use Rattle.vh_params.specs.Nodes.{nodes_of};
 ghost use Rattle.vh_session.specs.Keeps.{StandsUnder};
 ghost use Rattle.vh_session.specs.Names.{content_of};
-ghost use Rattle.vh_plugin.specs.Class.{AreValues, param_of};
 ghost use Rattle.vh_plugin.specs.Counts.{raised};
 ghost use Rattle.vh_counted.specs.Held.{object_of, object_of_opened, numbers_of_opened, value_of_opened};
 ghost use Rattle.vh_counted.specs.Steps.{first_numbers};
 ghost use Rattle.vh_counted.specs.Objects.{IsWhole};
 ghost use Rattle.vh_instance.specs.Raised.{raised_times, IsUndone};
 ghost use Rattle.vh_instance.specs.Seats.{Seat as Held, opener_seat, row_seats, ArePushed, AreEmpty, HaveRoom, AreTogether, Has};
+ghost use Rattle.vh_instance.specs.Plan.{plan_for};
+ghost use Rattle.vh_instance.specs.Presets.{AreAccepted, IsCause, IsCauseAt, refusal_at};
 ghost use Rattle.vh_instance.specs.Band.{IsController, AreControllers, controller_table, controller_object, kept_beside, kept_by_editor};
 
 use crate::component::class_of_node;
-use crate::end::end_controllers;
-use crate::firsts::add_firsts;
+use crate::end::{end_controller, end_controllers};
+use crate::presets::begin_controller;
 use crate::references::add_reference;
+use crate::refused::MakeRefused;
 use std::alloc::{AllocError, Global};
 use vh_counted::{Counted, Holder, Opened, Shell};
 use vh_ids::Interface;
-use vh_params::ParamInfo;
-use vh_plugin::{Controller, PluginSet};
+use vh_plugin::PluginSet;
+use vh_preset::Preset;
 use vh_query::Interfaces;
 use vh_session::Session;
 
@@ -71,49 +73,54 @@ fn part_all<C: Drop>(object: &Counted<C>, opener: &mut Opened<C>, rows: &mut [Ve
     }
 }
 
-/// Gives a controller these values, one for each parameter.
-fn set_firsts<C: Controller>(controller: &mut C, params: &[ParamInfo], values: &[u32])
-    requires params { (C.class_of (C.code controller.old)).params ≡ map param_of params.now }
-    requires values { AreValues (C.class_of (C.code controller.old)).params values.now }
-    ensures values { C.values controller.new ≡ values.now }
-    ensures mode { C.mode controller.new ≡ C.mode controller.old }
-    ensures code { C.code controller.new ≡ C.code controller.old }
-{
-    for (param, value) in params.iter().zip(values) {
-        controller.set_normalized(param.id, *value);
-    }
-}
-
-/// Makes the controller of a node, at its first values, with two references for each editor.
+/// Makes the controller of a node, at its first values, with two references for each editor. Where its preset is
+/// refused, it is ended.
 fn make_controller<S: PluginSet>(
     alloc: Global,
     set: &mut S,
     session: &Session,
+    presets: &[Option<Preset>],
     node: u32,
-) -> Result<(Counted<S::C>, Opened<S::C>), AllocError>
+) -> Result<(Counted<S::C>, Opened<S::C>), MakeRefused>
     requires node { node < length (nodes_of session.now.nodes) }
     requires stands { StandsUnder (S.infos set.old) (content_of session.now) }
+    requires presets { length presets.now ≡ length (nodes_of session.now.nodes) }
     ensures controller { (max : ℕ) → IfOk result (λ made. IsController
         (record { code = S.C.Controller.code; values = S.C.Controller.values; mode = S.C.Controller.mode })
-        (record { content = content_of session.now; infos = S.infos set.old; code = S.code set.old; class_of = S.P.Processor.class_of; max = max })
+        (plan_for (S.infos set.old) (S.code set.old) S.P.Processor.class_of session.now presets.now max)
         node made.0 made.1) }
+    ensures accepted { (max : ℕ) → OnOk result (refusal_at (plan_for (S.infos set.old) (S.code set.old) S.P.Processor.class_of session.now presets.now max) node ≡ None) }
+    ensures cause { (max : ℕ) → IfErr result (IsCauseAt (plan_for (S.infos set.old) (S.code set.old) S.P.Processor.class_of session.now presets.now max) node) }
     ensures made { OnOk result (S.made set.new ≡ raised (S.made set.old)) }
-    ensures unmade { OnErr result (S.made set.new ≡ S.made set.old) }
-    ensures ended { S.ended set.new ≡ S.ended set.old }
+    ensures kept { OnOk result (S.ended set.new ≡ S.ended set.old) }
+    ensures refused { OnErr result (IsUndone (S.made set.old) (S.ended set.old) (S.work set.old) (S.made set.new) (S.ended set.new) (S.work set.new)) }
     ensures work { S.work set.new ≡ S.work set.old }
     ensures infos { S.infos set.new ≡ S.infos set.old }
     ensures codes { (class : ℕ) → S.code set.new class ≡ S.code set.old class }
 {
-    let mut values = Vec::new(alloc);
-    add_firsts(session, node, &mut values)?;
     let editors = session.scripts.len() as u32;
     let class = class_of_node(set.classes(), session, node);
+    let component = set.classes().info(class).component;
     let shell = Shell::new(alloc, 4, 2 + 66 * editors)?;
     let mut controller = set.create_controller(alloc, class)?;
-    set_firsts(&mut controller, session.nodes.table(node).params(), &values);
+    let begun = begin_controller(
+        &mut controller,
+        session,
+        node,
+        presets[node as usize].as_ref(),
+        &component,
+    );
     let (object, mut opener) = shell.fill(controller);
-    find_interfaces(&object, &mut opener, editors);
-    Ok((object, opener))
+    match begun {
+        Ok(()) => {
+            find_interfaces(&object, &mut opener, editors);
+            Ok((object, opener))
+        }
+        Err(kind) => {
+            end_controller(set, object, opener);
+            Err(MakeRefused::Preset { node, kind })
+        }
+    }
 }
 
 /// Rows for so many holders, one for each editor.
@@ -149,17 +156,21 @@ pub(crate) fn destroy_rows<C: Drop>(rows: Vec<Vec<Holder<C>>>)
     rows.destroy_empty();
 }
 
-/// Makes the controllers of a session's nodes. After want of memory those that were made are ended.
+/// Makes the controllers of a session's nodes. After a refusal those that were made are ended.
 pub(crate) fn make_controllers<S: PluginSet>(
     alloc: Global,
     set: &mut S,
     session: &Session,
-) -> Result<Controllers<S::C>, AllocError>
+    presets: &[Option<Preset>],
+) -> Result<Controllers<S::C>, MakeRefused>
     requires stands { StandsUnder (S.infos set.old) (content_of session.now) }
+    requires presets { length presets.now ≡ length (nodes_of session.now.nodes) }
     ensures controllers { (max : ℕ) → IfOk result (λ made. AreControllers
         (record { code = S.C.Controller.code; values = S.C.Controller.values; mode = S.C.Controller.mode })
-        (record { content = content_of session.now; infos = S.infos set.old; code = S.code set.old; class_of = S.P.Processor.class_of; max = max })
+        (plan_for (S.infos set.old) (S.code set.old) S.P.Processor.class_of session.now presets.now max)
         (length (nodes_of session.now.nodes)) made.controllers.items made.edits.items made.holders.items) }
+    ensures accepted { (max : ℕ) → OnOk result (AreAccepted (plan_for (S.infos set.old) (S.code set.old) S.P.Processor.class_of session.now presets.now max) (length (nodes_of session.now.nodes))) }
+    ensures cause { (max : ℕ) → IfErr result (IsCause (plan_for (S.infos set.old) (S.code set.old) S.P.Processor.class_of session.now presets.now max)) }
     ensures made { OnOk result (S.made set.new ≡ raised_times (length (nodes_of session.now.nodes)) (S.made set.old)) }
     ensures kept { OnOk result (S.ended set.new ≡ S.ended set.old) }
     ensures refused { OnErr result (IsUndone (S.made set.old) (S.ended set.old) (S.work set.old) (S.made set.new) (S.ended set.new) (S.work set.new)) }
@@ -171,30 +182,30 @@ pub(crate) fn make_controllers<S: PluginSet>(
     let mut controllers = Vec::with_capacity(alloc, count as usize)?;
     let mut edits = match Vec::with_capacity(alloc, count as usize) {
         Ok(edits) => edits,
-        Err(error) => {
+        Err(AllocError) => {
             controllers.destroy_empty();
-            return Err(error);
+            return Err(MakeRefused::Memory);
         }
     };
     let mut holders = match empty_rows(alloc, session.scripts.len(), count as usize) {
         Ok(holders) => holders,
-        Err(error) => {
+        Err(AllocError) => {
             controllers.destroy_empty();
             edits.destroy_empty();
-            return Err(error);
+            return Err(MakeRefused::Memory);
         }
     };
     for node in 0..count {
-        match make_controller(alloc, set, session, node) {
+        match make_controller(alloc, set, session, presets, node) {
             Ok((object, opener)) => {
                 let mut opener = opener;
                 part_all(&object, &mut opener, &mut holders);
                 controllers.push_reserved(object);
                 edits.push_reserved(opener);
             }
-            Err(error) => {
+            Err(refused) => {
                 end_controllers(set, controllers, edits, holders);
-                return Err(error);
+                return Err(refused);
             }
         }
     }

@@ -125,7 +125,11 @@ fn join_all<C: Controller + Drop>(
 }
 
 /// Ends a controller, by its opener.
-fn end_controller<S: PluginSet>(set: &mut S, controller: Counted<S::C>, opener: Opened<S::C>)
+pub(crate) fn end_controller<S: PluginSet>(
+    set: &mut S,
+    controller: Counted<S::C>,
+    opener: Opened<S::C>,
+)
     requires { AreTogether (object_of controller) (opener_seat opener ∷ []) }
     ensures ended { S.ended set.new ≡ raised (S.ended set.old) }
     ensures work { S.work set.new ≡ S.work set.old }

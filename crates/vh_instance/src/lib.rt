@@ -8,8 +8,12 @@ mod end;
 mod firsts;
 mod instances;
 pub mod laws;
+mod presets;
 mod references;
+mod refused;
 
 pub use band::Band;
 pub use end::tear_down;
 pub use instances::make;
+pub use presets::no_presets;
+pub use refused::MakeRefused;

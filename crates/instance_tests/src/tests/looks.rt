@@ -9,7 +9,7 @@ ghost use Rattle.vh_instance.specs.Band.{of_processors};
 use std::alloc::{AllocError, Global};
 use vh_component::{Created, Layout, Processing, Setup};
 use vh_counted::{Holder, Opened};
-use vh_instance::{Band, make, tear_down};
+use vh_instance::{Band, make, no_presets, tear_down};
 use vh_num::Refusal;
 use vh_plugin::{PluginSet, Processor};
 use vh_points::Points;
@@ -106,7 +106,7 @@ fn seen_of<P: Processor + Drop, C: Drop>(
     })
 }
 
-/// Makes the band of a session's text, looks at it, and takes it down.
+/// Makes the band of a session's text, without presets, looks at it, and takes it down.
 pub fn look_at_band<S: PluginSet>(
     alloc: Global,
     set: &mut S,
@@ -116,7 +116,10 @@ pub fn look_at_band<S: PluginSet>(
         return Err(Refusal::Memory);
     };
     let session = read(alloc, text, set.classes())?;
-    let Ok(band) = make(alloc, set, &session, 64) else {
+    let Ok(presets) = no_presets(alloc, session.nodes.len()) else {
+        return Err(Refusal::Memory);
+    };
+    let Ok(band) = make(alloc, set, &session, &presets, 64) else {
         return Err(Refusal::Memory);
     };
     let mut band = band;

@@ -21,6 +21,10 @@ returns-in-SessionRefused-clause-said g c =
 pub returns-in-WavRefused-clause-said : goal.returns-in-WavRefused-clause-said
 returns-in-WavRefused-clause-said g c = says_line c.say_wav.result c.args.status.now (status.WavRefused c.in-WavRefused.fault) _ _ c.in-WavRefused.is tt c.say_wav.ensures
 
+pub returns-in-PresetRefused-clause-said : goal.returns-in-PresetRefused-clause-said
+returns-in-PresetRefused-clause-said g c =
+    says_line c.say_preset.result c.args.status.now (status.PresetRefused c.in-PresetRefused.node c.in-PresetRefused.kind) _ _ c.in-PresetRefused.is tt c.say_preset.ensures
+
 pub returns-in-JournalRefused-clause-said : goal.returns-in-JournalRefused-clause-said
 returns-in-JournalRefused-clause-said g c =
     let fault = c.in-JournalRefused.fault in

@@ -1,13 +1,13 @@
-use Rattle.std.proofs.Common.{◌≡◌, ◌∙◌, ℕ, zero, suc, ◌<◌, ◌≤◌, List, [], ◌∷◌, ◌++◌, refl, ap, sym, subst, arith, Option, Some}
+use Rattle.std.proofs.Common.{◌≡◌, ◌∙◌, ℕ, zero, suc, ◌<◌, ◌≤◌, List, [], ◌∷◌, ◌++◌, refl, ap, sym, subst, arith}
 use Rattle.std.specs.Prelude.{codes, IfSome}
 use Rattle.std.specs.Fmt.{decimal}
 use Rattle.std.proofs.lemmas.List.{append_assoc}
 use Rattle.vh_params.specs.declared.param.ParamInfo.{ParamInfo}
 use Rattle.vh_params.specs.Short.{label_text}
 use Rattle.vh_params.specs.ValueText.{value_text}
-use Rattle.vh_text.specs.Written.{further_text, line_text}
+use Rattle.vh_text.specs.Written.{line_text}
 use Rattle.vh_answers.specs.Told.{written_in}
-use Rattle.vh_answers.specs.Report.{shown_words, param_words}
+use Rattle.vh_answers.specs.Report.{shown_words}
 use Rattle.vh_answers.proofs.Told.{told_as}
 use Rattle.vh_answers.proofs.report.say_param.Goals as goal
 

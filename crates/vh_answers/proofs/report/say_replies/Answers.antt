@@ -1,7 +1,6 @@
-use Rattle.std.proofs.Common.{rules, ◌≡◌, ◌+◌, ◌++◌, map, drop, ap, Err}
+use Rattle.std.proofs.Common.{rules, map, ap}
 use Rattle.vh_params.specs.Nodes.{nodes_of}
-use Rattle.vh_text.specs.Written.{line_text}
-use Rattle.vh_answers.specs.Report.{reply_words, replies_text, answer_of}
+use Rattle.vh_answers.specs.Report.{replies_text, answer_of}
 use Rattle.vh_answers.proofs.Told.{goes_on, breaks_off, next_item}
 use Rattle.vh_answers.proofs.report.say_replies.Goals as goal
 

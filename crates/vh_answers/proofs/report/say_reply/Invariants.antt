@@ -1,4 +1,4 @@
-use Rattle.std.proofs.Common.{◌≡◌, ◌≤◌, ◌+◌, ◌*◌, ◌++◌, length, map, take, drop}
+use Rattle.std.proofs.Common.{◌≡◌, ◌≤◌, ◌+◌, ◌*◌, ◌++◌, length, map, drop}
 use Rattle.std.specs.Fmt.{decimal}
 use Rattle.vh_text.specs.Written.{further_text}
 use Rattle.vh_answers.specs.Told.{written_in}

@@ -17,10 +17,10 @@ returns-in_default-clause-ends g c = λ asked heard is.
     let score = c.args.score.now in
     let modes = c.args.supplies.now.modes.items in
     let scene = scene_in g.P.Processor.class_of kept in
-    let playing = plays g.P.Processor.class_of kept asked heard c.args.output.now score modes is c.requires.stands in
-    cut_short _ _ scene asked kept.session heard score.entries.now c.args.output.now (file_text scene heard.frames score)
+    let playing = plays g.P.Processor.class_of kept asked heard c.args.output.now score is c.requires.stands in
+    cut_short _ _ scene modes asked kept.session heard score.entries.now c.args.output.now (file_text scene heard.frames score)
     is.output_is
-    (same_text g.P.Processor.class_of kept asked heard c.args.output.now score modes is)
+    (same_text g.P.Processor.class_of kept asked heard c.args.output.now score is)
     (c.in_default.ensures.part heard.frames playing)
     c.in_default.ensures.rose refl
 
@@ -32,7 +32,7 @@ say-requires-clause-replies g c =
     let heard = c.requires.scored.1 in
     let scene = scene_in g.P.Processor.class_of kept in
     let given = answers scene heard.frames score.entries.now in
-    let playing = plays g.P.Processor.class_of kept c.requires.scored.0 heard c.args.output.now score c.args.supplies.now.modes.items c.requires.scored.2 c.requires.stands in
+    let playing = plays g.P.Processor.class_of kept c.requires.scored.0 heard c.args.output.now score c.requires.scored.2 c.requires.stands in
     let nodes = c.requires.nodes ∙ sym (ap (λ (content : Content). length content.nodes) (c.session.ensures ∙ c.in-Ok.ensures.same.session)) in
     replies_there (length (nodes_of c.session.result.now.nodes)) c.replies.result.now given
     (c.replies.ensures ∙ c.in-Ok.ensures.answers heard.frames playing)
@@ -47,17 +47,17 @@ returns-in-Ok-say-clause-ends g c = λ asked heard is.
     let scene = scene_in g.P.Processor.class_of kept in
     let content = content_of c.session.result.now in
     let given = map answer_of c.replies.result.now in
-    let playing = plays g.P.Processor.class_of kept asked heard c.args.output.now score modes is c.requires.stands in
-    let pieces = same_pieces kept asked heard c.args.output.now score modes is c.requires.playable.score_of in
-    done _ _ scene asked kept.session heard score.entries.now c.args.output.now (file_text scene heard.frames score)
+    let playing = plays g.P.Processor.class_of kept asked heard c.args.output.now score is c.requires.stands in
+    let pieces = same_pieces kept asked heard c.args.output.now score is c.requires.playable.score_of in
+    done _ _ scene modes asked kept.session heard score.entries.now c.args.output.now (file_text scene heard.frames score)
     (report_text content c.values.result.now c.deref.result.now c.in-Ok.pieces given [])
     is.output_is
-    (same_text g.P.Processor.class_of kept asked heard c.args.output.now score modes is)
+    (same_text g.P.Processor.class_of kept asked heard c.args.output.now score is)
     (c.in-Ok.ensures.file heard.frames playing)
-    (same_report scene asked kept.session content heard score.entries.now c.values.result.now c.deref.result.now c.in-Ok.pieces given
+    (same_report scene asked kept.session content heard score.entries.now c.values.result.now c.deref.result.now modes c.in-Ok.pieces given
     (c.session.ensures ∙ c.in-Ok.ensures.same.session)
     (c.values.ensures.values ∙ c.in-Ok.ensures.values heard.frames playing)
-    (c.deref.ensures.value ∙ is.modes_are)
+    c.deref.ensures.value
     (c.in-Ok.ensures.pieces ∙ pieces)
     (c.replies.ensures ∙ c.in-Ok.ensures.answers heard.frames playing))
     c.in-Ok-say.ensures.whole
@@ -73,17 +73,17 @@ returns-in-Err-clause-ends g c = λ asked heard is.
     let scene = scene_in g.P.Processor.class_of kept in
     let content = content_of c.session.result.now in
     let given = map answer_of c.replies.result.now in
-    let playing = plays g.P.Processor.class_of kept asked heard c.args.output.now score modes is c.requires.stands in
-    let pieces = same_pieces kept asked heard c.args.output.now score modes is c.requires.playable.score_of in
-    unsaid _ _ scene asked kept.session heard score.entries.now c.args.output.now (file_text scene heard.frames score)
+    let playing = plays g.P.Processor.class_of kept asked heard c.args.output.now score is c.requires.stands in
+    let pieces = same_pieces kept asked heard c.args.output.now score is c.requires.playable.score_of in
+    unsaid _ _ scene modes asked kept.session heard score.entries.now c.args.output.now (file_text scene heard.frames score)
     (report_text content c.values.result.now c.deref.result.now c.in-Ok.pieces given [])
     is.output_is
-    (same_text g.P.Processor.class_of kept asked heard c.args.output.now score modes is)
+    (same_text g.P.Processor.class_of kept asked heard c.args.output.now score is)
     (c.in-Ok.ensures.file heard.frames playing)
-    (same_report scene asked kept.session content heard score.entries.now c.values.result.now c.deref.result.now c.in-Ok.pieces given
+    (same_report scene asked kept.session content heard score.entries.now c.values.result.now c.deref.result.now modes c.in-Ok.pieces given
     (c.session.ensures ∙ c.in-Ok.ensures.same.session)
     (c.values.ensures.values ∙ c.in-Ok.ensures.values heard.frames playing)
-    (c.deref.ensures.value ∙ is.modes_are)
+    c.deref.ensures.value
     (c.in-Ok.ensures.pieces ∙ pieces)
     (c.replies.ensures ∙ c.in-Ok.ensures.answers heard.frames playing))
     c.in-Err.ensures.part

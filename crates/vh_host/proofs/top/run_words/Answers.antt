@@ -1,9 +1,9 @@
-use Rattle.std.proofs.Common.{◌≡◌, ℕ, List, map, Some, Option, sym, subst}
+use Rattle.std.proofs.Common.{◌≡◌, map, Option, sym, subst}
 use Rattle.std.specs.String.{string_bytes}
 use Rattle.vh_plugin.specs.Counts.{raised_by}
 use Rattle.vh_answers.specs.Outside.{outside, ChangesOnly}
 use Rattle.vh_answers.proofs.Stages.{after}
-use Rattle.vh_host.specs.Words.{Command, command_in}
+use Rattle.vh_host.specs.Words.{Command}
 use Rattle.vh_host.specs.Known.{Known}
 use Rattle.vh_host.specs.Commands.{words_step, command_steps, outputs_of}
 use Rattle.vh_host.specs.Named.{command_of}

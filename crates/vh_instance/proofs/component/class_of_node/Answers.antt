@@ -1,7 +1,7 @@
 use Rattle.std.proofs.Common.{ℕ, ◌<◌, List, length, sym, ap, subst, ◌∙◌}
 use Rattle.vh_params.specs.ClassList.{classes_of}
 use Rattle.vh_session.specs.Names.{content_of}
-use Rattle.vh_instance.specs.Band.{class_number}
+use Rattle.vh_instance.specs.Plan.{class_number}
 use Rattle.vh_instance.proofs.Classes.{number_within, is_there, number_found}
 use Rattle.vh_instance.proofs.component.class_of_node.Goals as goal
 

@@ -1,6 +1,6 @@
 use Rattle.std.proofs.Common.{rules, ◌++◌, map, refl}
 use Rattle.vh_session.specs.Names.{content_of}
-use Rattle.vh_answers.specs.Report.{head_text, nodes_text, replies_text, editors_text, close_text, report_text, answer_of}
+use Rattle.vh_answers.specs.Report.{nodes_text, replies_text, editors_text, close_text, report_text, answer_of}
 use Rattle.vh_answers.proofs.Told.{not_begun, goes_on, breaks_off, ends_with}
 use Rattle.vh_answers.proofs.report.Report.say.Goals as goal
 
