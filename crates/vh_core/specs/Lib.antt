@@ -1,0 +1,13 @@
+pub mod State
+pub mod Accepting
+pub mod Heard
+pub mod Steps
+pub mod Runs
+pub mod Sound
+pub mod Played
+pub mod Laws
+pub mod Run
+pub mod Playing
+pub mod Stage
+pub mod Kept
+pub mod Machine
