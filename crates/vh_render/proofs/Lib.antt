@@ -1,8 +1,8 @@
-mod Between
-mod Calls
-mod Cuts
+pub mod Between
+pub mod Calls
+pub mod Cuts
 mod Pieces
 mod Renders
-mod Texts
-mod Turns
-mod Ways
+pub mod Texts
+pub mod Turns
+pub mod Ways

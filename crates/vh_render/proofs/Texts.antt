@@ -18,7 +18,7 @@ use Rattle.vh_render.specs.declared.score.Score.{Score}
 use Rattle.vh_render.specs.Playing.{IsScoreOf, HasPart, file_text}
 
 -- numbers in a row, in two parts
-ranges : (a m n : ℕ) → range_with_len a (m + n) ≡ range_with_len a m ++ range_with_len (a + m) n
+pub ranges : (a m n : ℕ) → range_with_len a (m + n) ≡ range_with_len a m ++ range_with_len (a + m) n
 ranges a zero n = let e : zero + n ≡ n = omega arith in let f : a ≡ a + zero = omega arith in ap (range_with_len a) e ∙ ap (λ b. range_with_len b n) f
 ranges a (suc m) n =
     let e : suc m + n ≡ suc (m + n) = omega arith in

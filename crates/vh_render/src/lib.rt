@@ -11,3 +11,4 @@ pub use play::render;
 pub use room::Room;
 pub use score::Score;
 pub use sound::Sound;
+pub use write::play_piece;

@@ -49,7 +49,7 @@ fn place_of(entries: &[Entry], from: usize, sample: u32) -> usize
 
 /// Plays a piece into the front of `outs`, behind so many entries that were taken. Answers how many are taken then.
 /// `ins` and `outs` have room for the piece's samples.
-fn play_piece<P: Processor + Drop>(
+pub fn play_piece<P: Processor + Drop>(
     engine: &mut Engine<P>,
     score: &Score<'_>,
     piece: Piece,

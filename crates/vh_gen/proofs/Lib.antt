@@ -1,0 +1,11 @@
+mod Grown
+mod Named
+mod Wired
+mod Laned
+mod Standing
+mod Touched
+mod Journaled
+mod Sounded
+mod Summed
+mod Whole
+mod Heard

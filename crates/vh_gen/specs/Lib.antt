@@ -1,0 +1,9 @@
+pub mod Draws
+pub mod Nodes
+pub mod Lanes
+pub mod Gestures
+pub mod Generated
+pub mod Known
+pub mod Sound
+pub mod Playing
+pub mod Summary
