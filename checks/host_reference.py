@@ -2,12 +2,19 @@
 import functools
 
 import journal_reference
+import preset_reference
 import session_reference
 import wav_reference
 from classes_reference import PARAMETERS
-from rendering_reference import Entry, pieces, render, report
+from rendering_reference import Entry, first_values, pieces, render, report
 
-COMMANDS = {"check": ["session"], "render": ["session", "input", "output"], "replay": ["session", "input", "output", "journal"]}
+COMMANDS = {  # with the places of their words
+    "check": ["session"],
+    "render": ["session", "input", "output"],
+    "replay": ["session", "input", "output", "journal"],
+    "preset-show": ["preset"],
+    "preset-save": ["session", "node", "output"],
+}
 
 
 class Refused(Exception):
@@ -19,7 +26,7 @@ def number(word):
 
 
 def names_of(words):
-    """The command, the files by their places, and the size of blocks that takes the pattern's place, or none."""
+    """The command, the further words by their places, and the size of blocks that takes the pattern's place, or none."""
     command, *names = words or [""]
     places = COMMANDS.get(command, [])
     block = None
@@ -33,23 +40,46 @@ def names_of(words):
     return command, dict(zip(places, names)), block
 
 
-def content(files, names, place):
-    if names[place] not in files:
+def content(files, name, place):
+    if name not in files:
         raise Refused(6, f"failed read {place}\n")
-    return files[names[place]]
+    return files[name]
 
 
-def session_of(data, command):
+def session_of(data):
     try:
         session = session_reference.read(data)
     except session_reference.Refused as refused:
         line, kind = refused.args
         raise Refused(2, f"refused session {line} {kind}\n") from None
-    if command != "check" and session.presets:
-        lines = session_reference.lines_of(data)
-        line = next(at for at, line in enumerate(lines, 1) if session_reference.words_of(line)[:1] == [b"preset"])
-        raise Refused(2, f"refused session {line} 21\n")
     return session
+
+
+def unfaulted(call, node, *given):
+    """The answer of a call on a preset, or its fault, at a node's number or `-`."""
+    try:
+        return call(*given)
+    except preset_reference.Fault as fault:
+        raise Refused(4, f"refused preset {node} {fault.number()}\n") from None
+
+
+def preset_of(files, name, node):
+    return unfaulted(preset_reference.read, node, content(files, name, "preset"))
+
+
+def loaded_of(session, files):
+    """What the presets of a session give, by the nodes' names."""
+    presets = {node: preset_of(files, file.decode(), node) for node, (_, file) in sorted(session.presets.items())}
+    named = [(name, node, kind) for name, (node, kind, _) in session.nodes.items() if node in presets]
+    return {name: unfaulted(preset_reference.load, node, presets[node], kind) for name, node, kind in named}
+
+
+def saved_of(session, name, loaded):
+    """The preset file of a node's first values and its mode."""
+    if name not in session.nodes:
+        raise Refused(4, "refused preset - 13\n")
+    mode = loaded[name].mode if name in loaded else 0
+    return preset_reference.saved(session.nodes[name][1], first_values(session, name, loaded.get(name)), mode)
 
 
 def sound_of(data, session):
@@ -74,26 +104,32 @@ def entries_of(data, session):
 
 
 @functools.lru_cache(maxsize=1)
-def rendered(session, sound, journal):
-    """The entries, what comes of a session and an input that are accepted and of a journal or none, and the output."""
+def rendered(session, loaded, sound, journal):
+    """The entries, what comes of a session and an input that are accepted, of what presets gave and of a journal or none, and
+    the output."""
     session = session_reference.read(session)
     rate, channels = sound_of(sound, session)
     entries = entries_of(journal, session) if journal is not None else []
-    rendering = render(session, channels, entries)
+    rendering = render(session, dict(loaded), channels, entries)
     return entries, rendering, wav_reference.file_of(rendering.channels, rate, session.once[b"bits"][0])
 
 
 def done(words, files):
     command, names, block = names_of(words)
-    session = session_of(content(files, names, "session"), command)
+    if command == "preset-show":
+        return 0, preset_reference.listing(preset_of(files, names["preset"], "-")), {}
+    session = session_of(content(files, names["session"], "session"))
     if command == "check":
         return 0, session.canonical(), {}
-    sound_of(content(files, names, "input"), session)
-    journal = content(files, names, "journal") if command == "replay" else None
-    entries, rendering, out = rendered(files[names["session"]], files[names["input"]], journal)
+    loaded = loaded_of(session, files)
+    if command == "preset-save":
+        return 0, "", {names["output"]: saved_of(session, names["node"].encode(), loaded)}
+    sound_of(content(files, names["input"], "input"), session)
+    journal = content(files, names["journal"], "journal") if command == "replay" else None
+    entries, rendering, out = rendered(files[names["session"]], tuple(loaded.items()), files[names["input"]], journal)
     stops = [entry.sample for entry in entries if entry.verb == b"tell"]
     count = pieces(session.once[b"length"][0], [block] if block else session.once[b"pattern"], stops)
-    return 0, report(session, rendering, count), {names["output"]: out}
+    return 0, report(session, loaded, rendering, count), {names["output"]: out}
 
 
 def answer(words, files):

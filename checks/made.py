@@ -1,5 +1,6 @@
-"""Sessions, sounds and journals for the checks, and what a file holds, by Python's `wave`."""
+"""Sessions, sounds, journals and presets for the checks, and what a file holds, by Python's `wave`."""
 import io
+import struct
 import wave
 
 GAIN = ["node a gain", "wire in a", "wire a out"]
@@ -49,4 +50,21 @@ MONO = bytes.fromhex("524946462A00000057415645666D7420100000000100010080BB000000
 STEREO = bytes.fromhex(
     "524946465000000057415645666D742028000000FEFF020044AC0000980904000600180016001800030000000100000000001000800000AA00389B71"
     "4C495354050000006162636465006461746106000000010000FFFFFF"
+)
+
+PRESET_HEAD = bytes.fromhex("5653543301000000")
+GAIN_CLASS = b"56485354434F4D500000000000000001"
+GAIN_STATE = bytes.fromhex("01000000 00000000 00008000 01000000 00000000")  # Level 8388608, Bypass 0
+SHUT_STATE = bytes.fromhex("01000000 00000000 00000000 01000000 00000000")
+# a preset of a gain in lower-case digits, with two states of which the first counts, and three bytes behind the list
+TWO_STATES = b"".join(
+    [
+        PRESET_HEAD + GAIN_CLASS.lower() + bytes.fromhex("5800000000000000"),
+        GAIN_STATE + SHUT_STATE,
+        bytes.fromhex("4C697374 02000000 436F6D70 3000000000000000 1400000000000000 436F6D70 4400000000000000 1400000000000000 010203"),
+    ]
+)
+# a preset as a host writes it: the states of a component and of its controller, and meta data
+HOST = bytes.fromhex("5653543301000000") + b"0123456789ABCDEF0123456789ABCDEF" + struct.pack("<Q", 59) + b"abcdefg<x/>List" + struct.pack(
+    "<I4sQQ4sQQ4sQQ", 3, b"Comp", 48, 4, b"Cont", 52, 2, b"Info", 54, 5
 )

@@ -1,14 +1,25 @@
-"""Reads and writes preset files as docs/formats.md tells, by none of the program's means, so that what vh_preset reads
-and writes can be compared with it."""
+"""Reads and writes preset files, and the states in them, as docs/formats.md tells, by none of the program's means, so that
+what is read, loaded and written can be compared with it."""
 import struct
+from collections import namedtuple
 
+from classes_reference import ONE, PARAMETERS
+
+MOST_BYTES = 67_108_864
 MOST_ENTRIES = 128
 HEX_DIGITS = set(b"0123456789abcdefABCDEF")
 WRITTEN_IDS = [b"Comp", b"Cont", b"Prog", b"Info"]
+KINDS = ["Short", "BadMagic", "BadVersion", "BadClassId", "BadListOffset", "BadListId", "BadCount", "BadRange", "OtherClass", "NoComp", "BadState", "TooLong", "NoSuchNode"]
+
+Preset = namedtuple("Preset", "identifier version entries chunks")
+Loaded = namedtuple("Loaded", "values mode")  # what a preset gives a node: values by rising id, each with its id
 
 
 class Fault(Exception):
     """A fault, named as vh_preset names it."""
+
+    def number(self):
+        return KINDS.index(self.args[0].split("(")[0]) + 1
 
 
 def need(holds, fault):
@@ -46,15 +57,60 @@ def file_of(identifier, chunks):
     return head + body + struct.pack("<4sI", b"List", len(present)) + entries
 
 
-def answer(data):
-    """What preset_check says of a file."""
-    try:
-        identifier, version, entries = parts_of(data)
-    except Fault as fault:
-        return [f"refused {fault}"]
+def read(data):
+    """The preset that a file holds."""
+    need(len(data) <= MOST_BYTES, "TooLong")
+    identifier, version, entries = parts_of(data)
     chunks = {}
     for name, start, length in entries:
         chunks.setdefault(name, data[start : start + length])
-    lines = [f"preset {identifier.hex().upper()} {version}"]
-    lines += [f"chunk {name.hex().upper()} {start} {length}" for name, start, length in entries]
-    return lines + [f"written {file_of(identifier, chunks).hex().upper()}"]
+    return Preset(identifier, version, entries, chunks)
+
+
+def listing(preset):
+    """What preset-show says of a preset."""
+    lines = ["vsthost preset 1", f"class {preset.identifier.hex().upper()}", f"version {preset.version}"]
+    lines += [f"chunk {name.hex().upper()} {start} {length}" for name, start, length in preset.entries]
+    return "".join(f"{line}\n" for line in [*lines, "close"])
+
+
+def identifier_of(kind):
+    """The identifier of a built-in class."""
+    return b"VHSTCOMP" + (list(PARAMETERS).index(kind) + 1).to_bytes(8, "big")
+
+
+def settable(kind):
+    """The ids of the parameters that a component's state has."""
+    return [at for at, parameter in enumerate(PARAMETERS[kind]) if not parameter.read_only]
+
+
+def state_of(kind, values):
+    """The state of a component with these values, by id."""
+    return struct.pack("<I", 1) + b"".join(struct.pack("<II", at, values[at]) for at in settable(kind))
+
+
+def load(preset, kind):
+    """What a preset gives a node of this class."""
+    need(preset.identifier == identifier_of(kind), "OtherClass")
+    need(b"Comp" in preset.chunks, "NoComp")
+    state = preset.chunks[b"Comp"]
+    need(len(state) == 4 + 8 * len(settable(kind)), "BadState")
+    form, *numbers = struct.unpack(f"<{len(state) // 4}I", state)
+    need(form == 1 and numbers[::2] == settable(kind), "BadState")
+    need(all(value <= ONE for value in numbers[1::2]), "BadState")
+    return Loaded(tuple(zip(numbers[::2], numbers[1::2])), int(preset.chunks.get(b"Cont") == struct.pack("<II", 1, 1)))
+
+
+def saved(kind, values, mode):
+    """The file of a node's values, by id, and its controller's mode."""
+    return file_of(identifier_of(kind), {b"Comp": state_of(kind, values), b"Cont": struct.pack("<II", 1, mode)})
+
+
+def answer(data):
+    """What preset_check says of a file."""
+    try:
+        preset = read(data)
+    except Fault as fault:
+        return [f"refused {fault}"]
+    lines = [f"preset {preset.identifier.hex().upper()} {preset.version}", *listing(preset).splitlines()[3:-1]]
+    return lines + [f"written {file_of(preset.identifier, preset.chunks).hex().upper()}"]

@@ -7,6 +7,7 @@ import subprocess
 import sys
 import tempfile
 
+from made import GAIN_CLASS, GAIN_STATE, HOST, PRESET_HEAD, TWO_STATES
 from preset_reference import HEX_DIGITS, WRITTEN_IDS, answer, file_of
 from tally import Tally
 
@@ -19,10 +20,6 @@ PICK = random.Random(2026)
 IDS = WRITTEN_IDS + [b"comp", b"Some", b"\0\0\0\0", b"List"]
 BYTES = [0, 1, 0x2F, 0x30, 0x39, 0x3A, 0x40, 0x41, 0x46, 0x47, 0x60, 0x61, 0x66, 0x67, 0x7F, 0x80, 0xFF]
 
-# as a host writes it: the states of a component and of its controller, and meta data
-HOST = bytes.fromhex("5653543301000000") + b"0123456789ABCDEF0123456789ABCDEF" + struct.pack("<Q", 59) + b"abcdefg<x/>List" + struct.pack(
-    "<I4sQQ4sQQ4sQQ", 3, b"Comp", 48, 4, b"Cont", 52, 2, b"Info", 54, 5
-)
 MOST = 8 * b"\xff"
 CHANGES = [  # a place, the bytes that stand there then, and the fault
     (0, b"W", "BadMagic"),
@@ -71,6 +68,10 @@ IN_TURN = [  # changes one upon another, each with a fault that comes before tho
     (4, b"\0", "BadVersion"),
     (0, b"v", "BadMagic"),
 ]
+
+
+# the class and the first state of TWO_STATES
+WRITTEN = PRESET_HEAD + GAIN_CLASS + bytes.fromhex("4400000000000000") + GAIN_STATE + bytes.fromhex("4C697374 01000000 436F6D70 3000000000000000 1400000000000000")
 
 
 def build():
@@ -158,7 +159,7 @@ def rows():
     found += [(empty[:size], "Short" if size < 48 else "BadListOffset") for size in range(len(empty))]
     for count, fault in [(128, None), (129, "BadCount(129)")]:
         found.append((empty[:52] + struct.pack("<I", count) + count * struct.pack("<4sQQ", b"Some", 48, 0), fault))
-    return found + [(HOST, None)]
+    return found + [(HOST, None), (TWO_STATES, None)]
 
 
 def said_of(folder, files):
@@ -178,6 +179,7 @@ def check_rows(tally, folder):
         lines = said.get(name, [])
         tally.expect(name, lines, answer(data))
         tally.expect(f"{name}'s fault", lines[:1] == [f"refused {fault}"] if fault else lines[0].startswith("preset "), True)
+    tally.expect("the first of two states is written", (lines[-1:], len(WRITTEN)), ([f"written {WRITTEN.hex().upper()}"], 96))
 
 
 def main():

@@ -1,5 +1,5 @@
-"""Renders random sessions, the same in each run, and the examples, under four sizes of blocks, and compares what is
-written and said with host_reference; what sox and ffmpeg read of some of it, where they are there, too."""
+"""Renders random sessions, the same in each run, some of them with presets, and the examples, under four sizes of blocks, and
+compares what is written and said with host_reference; what sox and ffmpeg read of some of it, where they are there, too."""
 import pathlib
 import random
 import re
@@ -10,6 +10,7 @@ import tempfile
 from concurrent.futures import ThreadPoolExecutor
 
 import host_reference
+import preset_reference
 import wav_reference
 from classes_reference import HALF, ONE, PARAMETERS, WITH_AUX
 from program import TOP, run
@@ -29,6 +30,7 @@ class Draft:
         sizes = [str(PICK.choice([1, 2, 7, 64, 100, 8192, PICK.randint(1, 60)])) for _ in range(PICK.choice([1, 1, 2, 3, 16]))]
         self.lines = ["vsthost session 1", f"length {length}", f"channels {channels}", f"bits {PICK.choice([16, 24])}", "pattern " + " ".join(sizes)]
         self.nodes = []  # name and class
+        self.presets = {}  # files, by their names
         self.bits = PICK.choice([16, 24])  # of the input
         frames = PICK.choice([length] * 6 + [length + 3, length // 2, 0, 1])
         self.sound = [[x << (24 - self.bits) for x in samples_of(frames, self.bits)] for _ in range(channels)]
@@ -60,6 +62,9 @@ class Draft:
 
     def session(self):
         return "".join(line + "\n" for line in self.lines).encode()
+
+    def files(self):
+        return {"s": self.session(), "in.wav": self.input(), **self.presets}
 
     def input(self):
         return wav_reference.file_of(self.sound, PICK.choice([8000, 44100, 48000, 1, 768000]), self.bits)
@@ -102,6 +107,30 @@ def add_lanes(draft, often):
             draft.say("lane", name, at, PICK.choice([0, 0, 0, 4, 12, 20, 23, 24, PICK.randint(0, 24)]), *points[0])
             for point in points[1:]:
                 draft.say("point", *point)
+
+
+def preset(draft, name, kind):
+    """A preset of a node, most often one that can be loaded."""
+    identifier = preset_reference.identifier_of(kind.encode() if PICK.random() < 0.97 else b"tap")
+    values = {at: draft.value(at, kind, parameter) for named, at, _, parameter in draft.parameters() if named == name}
+    state = preset_reference.state_of(kind.encode(), values)
+    if PICK.random() < 0.03:
+        at = PICK.randrange(len(state))
+        state = state[:at] + bytes([PICK.randrange(256)]) + state[at + 1 :]
+    mode = bytes([PICK.choice([1, 1, 1, 1, 2]), 0, 0, 0, PICK.choice([0, 1, 1, 2]), 0, 0, 0])
+    chunks = {b"Comp": state, b"Cont": mode, b"Prog": b"", b"Info": b"<MetaInfo/>"}
+    data = preset_reference.file_of(identifier, {name: chunk for name, chunk in chunks.items() if PICK.random() < (0.98 if name == b"Comp" else 0.6)})
+    if PICK.random() < 0.3:
+        data = data[:8] + data[8:40].lower() + data[40:] + b"behind"
+    return data[:-1] if PICK.random() < 0.03 else data
+
+
+def add_presets(draft, often):
+    for number, (name, kind) in enumerate(draft.nodes):
+        if PICK.random() < often:
+            draft.say("preset", name, f"p{number}")
+            if PICK.random() < 0.98:
+                draft.presets[f"p{number}"] = preset(draft, name, kind)
 
 
 def scattered(draft):
@@ -167,19 +196,23 @@ def drawn():
     """A random session."""
     draft = Draft(PICK.choice([PICK.randint(0, 4), PICK.randint(60, 70), PICK.randint(20, 400), PICK.randint(20, 400)]), PICK.choice([1, 2]))
     PICK.choice([scattered, scattered, chained, loud])(draft)
+    if PICK.random() < 0.2:
+        add_presets(draft, 0.7)
     return draft
 
 
 def examples():
-    """Each rendering that the examples' page shows: its name, its session and its input."""
+    """Each rendering that the examples' page shows: its session's name, and the files that it reads."""
     shown = re.findall(r"vsthost render examples/(\S+) examples/(\S+) ", (TOP / "examples/README.md").read_text())
-    return [(name, *((TOP / "examples" / file).read_bytes() for file in (name, sound))) for name, sound in shown]
+    presets = {str(path.relative_to(TOP)): path.read_bytes() for path in (TOP / "examples").glob("*.vstpreset")}
+    return [(name, {"s": (TOP / "examples" / name).read_bytes(), "in.wav": (TOP / "examples" / sound).read_bytes(), **presets}) for name, sound in shown]
 
 
 def check_rendering(pool, work, name, files, words):
     """Renders under four sizes of blocks: of each the name, the output, the run and what is awaited."""
     folder = pathlib.Path(tempfile.mkdtemp(dir=work))
     for file, data in files.items():
+        (folder / file).parent.mkdir(exist_ok=True)
         (folder / file).write_bytes(data)
     for size in ["", "block=1", f"block={PICK.randint(2, 200)}", "block=8192"]:
         out = f"out{size}.wav"
@@ -218,14 +251,17 @@ def main():
             print(f"checks: {tool} is missing, and what it would read is skipped")
     words = ["render", "s", "in.wav", "OUT"]
     drafts = [drawn() for _ in range(SESSIONS)]
-    cases = [(f"random rendering {count}", draft.session(), draft.input()) for count, draft in enumerate(drafts)] + examples()
+    cases = [(f"random rendering {count}", draft.files()) for count, draft in enumerate(drafts)] + examples()
     with tempfile.TemporaryDirectory() as work, ThreadPoolExecutor(4) as pool:
         awaited = []
-        for name, session, sound in cases:
-            awaited += check_rendering(pool, work, name, {"s": session, "in.wav": sound}, words)
+        for name, files in cases:
+            awaited += check_rendering(pool, work, name, files, words)
         settle(tally, awaited)
         for name, out, _, _ in awaited[:: len(awaited) // OPENED]:
-            check_opened(tally, name, out)
+            if out.exists():
+                check_opened(tally, name, out)
+    loaded = sum(bool(files.keys() - {"s", "in.wav"}) and answered[0] == 0 for (_, files), (_, _, _, answered) in zip(cases, awaited[::4]))
+    tally.expect("presets are loaded", loaded > SESSIONS // 20, True)
     return tally.close("random renderings")
 
 

@@ -74,7 +74,7 @@ def main():
         awaited = []
         for count in range(REPLAYS):
             draft = PICK.choice([drawn, touched, touched])()
-            files = {"s": draft.session(), "in.wav": draft.input(), "j": journal(draft)}
+            files = {**draft.files(), "j": journal(draft)}
             for kind in KINDS:
                 came[kind] += files["j"].count(kind.encode())
             awaited += check_rendering(pool, work, f"random replay {count}", files, words)

@@ -54,11 +54,19 @@ class Setting:
         return found
 
 
-class Graph:
-    """The sounds of a session's nodes."""
+def first_values(session, name, loaded):
+    """The values that a node's parameters begin with, where its preset gave `loaded`, or none."""
+    node, kind, _ = session.nodes[name]
+    held = dict(loaded.values) if loaded else {}
+    values = [session.firsts.get((node, at), (name, held.get(at, parameter.default)))[1] for at, parameter in enumerate(PARAMETERS[kind])]
+    return [quantised(value, parameter.steps) for value, parameter in zip(values, PARAMETERS[kind])]
 
-    def __init__(self, session, channels, entries):
-        self.session, self.entries = session, list(enumerate(entries))
+
+class Graph:
+    """The sounds of a session's nodes, where their presets gave `loaded`, by the nodes' names."""
+
+    def __init__(self, session, loaded, channels, entries):
+        self.session, self.loaded, self.entries = session, loaded, list(enumerate(entries))
         self.length = session.once[b"length"][0]
         self.input = [xs[: self.length] + [0] * (self.length - len(xs)) for xs in channels]
         self.silence = [[0] * self.length for _ in channels]
@@ -69,8 +77,8 @@ class Graph:
     def settings_of(self, name):
         node, kind, _ = self.session.nodes[name]
         found = []
-        for identifier, parameter in enumerate(PARAMETERS[kind]):
-            _, first = self.session.firsts.get((node, identifier), (name, parameter.default))
+        firsts = first_values(self.session, name, self.loaded.get(name))
+        for identifier, (parameter, first) in enumerate(zip(PARAMETERS[kind], firsts)):
             edits = [entry for _, entry in self.entries if entry.verb != b"tell" and (entry.name, entry.numbers[0]) == (name, identifier)]
             found.append(Setting(parameter, first, self.session.lanes.get((node, identifier)), edits))
         return found
@@ -114,9 +122,9 @@ class Graph:
         return shown(kind, self.reaching(name), restarts) or [values[-1] for values in self.values[name]]
 
 
-def render(session, channels, entries):
-    """What comes of a session, the channels' samples of its input and a journal's entries."""
-    graph = Graph(session, channels, entries)
+def render(session, loaded, channels, entries):
+    """What comes of a session, what its presets gave, the channels' samples of its input and a journal's entries."""
+    graph = Graph(session, loaded, channels, entries)
     values = {name: graph.last_values(name) for name in session.nodes}
     replies = [(entry.name, entry.sample, graph.reply(place, entry)) for place, entry in graph.entries if entry.verb == b"tell"]
     return Rendering(graph.mixed(b"out") or graph.silence, values, replies)
@@ -143,10 +151,11 @@ def value_text(parameter, value):
     return text + (f" {parameter.units}" if parameter.units else "")
 
 
-def report(session, rendering, count):
+def report(session, loaded, rendering, count):
     lines = ["vsthost report 1", f"frames {session.once[b'length'][0]}", f"pieces {count}"]
     for name, (_, kind, _) in session.nodes.items():
+        texts = not (name in loaded and loaded[name].mode)
         for identifier, (parameter, value) in enumerate(zip(PARAMETERS[kind], rendering.values[name])):
-            lines.append(f"param {name.decode()} {identifier} {value} {value_text(parameter, value)}")
+            lines.append(f"param {name.decode()} {identifier} {value}" + f" {value_text(parameter, value)}" * texts)
     lines += [" ".join(map(str, ["reply", name.decode(), sample, *words])) for name, sample, words in rendering.replies]
     return "".join(line + "\n" for line in [*lines, "close"])

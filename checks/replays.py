@@ -154,7 +154,7 @@ def refusals():
     yield Refusal("no session and a bad journal", REPLAY, bad, 6, "failed read session\n")
     yield Refusal("a bad session and a bad journal", REPLAY, {"s": CYCLE, **bad}, 2, "refused session 7 19\n")
     yield Refusal("too long a session and too long a journal", REPLAY, {"s": TOO_LONG, "j": b"#" * 1_048_577, **there}, 2, "refused session 0 20\n")
-    yield Refusal("a preset and a bad journal", REPLAY, {"s": PRESET.replace(b"preset a c\n", b""), **bad}, 2, "refused session 11 21\n")
+    yield Refusal("no preset and a bad journal", REPLAY, {"s": PRESET, **bad}, 6, "failed read preset\n")
     yield Refusal("no input and a bad journal", REPLAY, {"s": session(), **bad}, 6, "failed read input\n")
     yield Refusal("a bad input and no journal", REPLAY, {"s": session(), "in.wav": EIGHT_BITS, **there}, 3, "refused wav 4\n")
     yield Refusal("two channels and no journal", REPLAY, {"s": session(channels=2), "in.wav": MONO, **there}, 3, "refused wav 7\n")
