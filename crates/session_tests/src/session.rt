@@ -6,7 +6,7 @@ use vh_num::Refusal;
 use vh_params::{
     CAN_AUTOMATE, ClassInfo, Classes, IS_READ_ONLY, Label, ParamInfo, ParamTable, UnitInfo,
 };
-use vh_session::{End, SessionFault, SessionKind, first_preset, laws, read};
+use vh_session::{End, SessionFault, SessionKind, laws, read};
 
 /// A continuous parameter.
 fn param(id: u32, flags: u32) -> ParamInfo {
@@ -134,7 +134,7 @@ fn lanes_at_their_limit(rt: HostRuntime) -> Result<(), Fail> {
 }
 
 #[test]
-fn wires_sizes_and_the_first_preset(rt: HostRuntime) -> Result<(), Fail> {
+fn wires_and_sizes(rt: HostRuntime) -> Result<(), Fail> {
     let alloc = rt.alloc();
     let classes = classes(alloc)?;
     let text =
@@ -154,8 +154,6 @@ fn wires_sizes_and_the_first_preset(rt: HostRuntime) -> Result<(), Fail> {
         length: 3,
     };
     assert_eq!(rt; blocks.next(), Some(first));
-    assert_eq!(rt; first_preset(text), Some(10));
-    assert_eq!(rt; first_preset(b"# preset\npresets e f"), None);
     laws::printed_is_read();
     laws::texts_have_one_meaning();
     Ok(())

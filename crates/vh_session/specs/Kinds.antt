@@ -1,7 +1,7 @@
 -- The numbers of the kinds of faults.
 use Rattle.std.specs.Prelude.{ℕ}
 use Rattle.vh_session.specs.declared.fault.SessionKind.{SessionKind}
-use Rattle.vh_session.specs.declared.fault.SessionKind.TheVariants.{BadHeader, BadByte, UnknownWord, BadNumber, BadName, Missing, Extra, Repeated, DuplicateNode, UnknownNode, UnknownClass, UnknownParam, ReadOnlyParam, BadWire, BadLane, BadEditor, TooMany, NoLine, Cycle, TooLong, NotYet}
+use Rattle.vh_session.specs.declared.fault.SessionKind.TheVariants.{BadHeader, BadByte, UnknownWord, BadNumber, BadName, Missing, Extra, Repeated, DuplicateNode, UnknownNode, UnknownClass, UnknownParam, ReadOnlyParam, BadWire, BadLane, BadEditor, TooMany, NoLine, Cycle, TooLong}
 
 abbrev pub kind_number : SessionKind → ℕ
 kind_number BadHeader = 1
@@ -24,4 +24,3 @@ kind_number TooMany = 17
 kind_number NoLine = 18
 kind_number (Cycle node) = 19
 kind_number TooLong = 20
-kind_number NotYet = 21

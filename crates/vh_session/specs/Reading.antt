@@ -1,9 +1,9 @@
 -- What a session's text says, line by line, and what it comes to.
-use Rattle.std.specs.Prelude.{ℕ, ◌+◌, Bool, true, not, ◌&&◌, ◌==◌, nat_lt, List, [], ◌∷◌, length, Option, Some, None, Result, Ok, Err, if◌then◌else◌, codes}
+use Rattle.std.specs.Prelude.{ℕ, ◌+◌, Bool, true, not, ◌&&◌, ◌==◌, nat_lt, List, [], ◌∷◌, length, Result, Ok, Err, if◌then◌else◌, codes}
 use Rattle.std.specs.Option.{is_some}
 use Rattle.std.specs.Str.{bytes_eq}
 use Rattle.vh_text.specs.Lines.{lines_of}
-use Rattle.vh_text.specs.Tokens.{bad_byte, words_of, first_word}
+use Rattle.vh_text.specs.Tokens.{bad_byte, words_of}
 use Rattle.vh_params.specs.declared.class.ClassInfo.{ClassInfo}
 use Rattle.vh_session.specs.declared.fault.SessionKind.{SessionKind}
 use Rattle.vh_session.specs.declared.fault.SessionKind.TheVariants.{BadHeader, NoLine, TooLong}
@@ -59,12 +59,3 @@ draft_of classes bytes =
     (given (text_from classes (lines_of bytes)) (λ draft.
     fault_if (not (is_complete draft)) (fault (length (lines_of bytes) + 1) NoLine)
     (Ok draft)))
-
--- the first line whose first word is `preset`, where the first of these lines has this number
-abbrev pub preset_from : ℕ → List (List ℕ) → Option ℕ
-preset_from line [] = None
-preset_from line (text ∷ texts) = if bytes_eq (first_word text) (codes "preset") then Some line else preset_from (line + 1) texts
-
--- the line of a text's first preset
-abbrev pub first_preset : List ℕ → Option ℕ
-first_preset bytes = preset_from 1 (lines_of bytes)

@@ -68,9 +68,6 @@ pub enum SessionKind {
     /// The text has more bytes than the limit.
     #[error("too many bytes")]
     TooLong,
-    /// `render` doesn't read this form of the line yet. No call of this crate answers it.
-    #[error("not rendered yet")]
-    NotYet,
 }
 
 impl SessionKind {
@@ -101,7 +98,6 @@ impl SessionKind {
             SessionKind::NoLine => 18,
             SessionKind::Cycle(_) => 19,
             SessionKind::TooLong => 20,
-            SessionKind::NotYet => 21,
         }
     }
 }

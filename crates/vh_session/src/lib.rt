@@ -19,6 +19,6 @@ mod wire;
 
 pub use fault::{SessionFault, SessionKind};
 pub use limits::SESSION_LIMIT;
-pub use reader::{first_preset, read};
+pub use reader::read;
 pub use session::Session;
 pub use wire::{End, Wire};

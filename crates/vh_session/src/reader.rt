@@ -1,11 +1,10 @@
 //! Reading a session, line by line.
 
-ghost use Rattle.std.specs.Prelude.{◌≡◌, ◌≢◌, ◌<◌, ◌≤◌, ◌+◌, ◌^◌, All, OnOk, IfOk, length};
+ghost use Rattle.std.specs.Prelude.{◌≡◌, ◌≢◌, ◌<◌, ◌+◌, ◌^◌, All, OnOk, IfOk, length};
 ghost use Rattle.vh_params.specs.ClassList.{classes_of};
 ghost use Rattle.vh_session.specs.Ended.{IsRead};
 ghost use Rattle.vh_session.specs.Lines.{line_of};
-ghost use Rattle.vh_session.specs.Reading.{is_skipped, is_header, are_header, is_complete, fault, draft_of, lines_from, preset_from, first_preset};
-ghost use Rattle.vh_session.specs.Limits.{session_limit};
+ghost use Rattle.vh_session.specs.Reading.{is_skipped, is_header, are_header, is_complete, fault, draft_of, lines_from};
 ghost use Rattle.vh_text.specs.Tokens.{texts};
 ghost use Rattle.vh_session.specs.Steps.{IsLineRead, AreLinesRead, IsDraftRead};
 ghost use Rattle.vh_session.specs.Sound.{IsSound};
@@ -20,7 +19,7 @@ use crate::session::Session;
 use std::alloc::{AllocError, Global};
 use vh_num::Refusal;
 use vh_params::Classes;
-use vh_text::{Lines, first_word, words};
+use vh_text::{Lines, words};
 
 /// Whether a line has nothing but spaces, or a comment.
 fn is_skipped(text: &[u8]) -> bool
@@ -180,19 +179,4 @@ pub fn read(
     let draft = read_draft(alloc, bytes, classes)?;
     draft.check_cycles(alloc)?;
     Ok(draft.finish(alloc)?)
-}
-
-/// The line of a text's first preset, from 1: the first line whose first word is `preset`.
-pub fn first_preset(bytes: &[u8]) -> Option<u32>
-    requires { length bytes.now ≤ session_limit }
-    ensures { result ≡ first_preset bytes.now }
-{
-    let mut line = 0;
-    for text in Lines::new(bytes) {
-        line += 1;
-        if first_word(text) == b"preset".as_slice() {
-            return Some(line);
-        }
-    }
-    None
 }
