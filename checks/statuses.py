@@ -50,6 +50,15 @@ USAGE = [
     ["preset-save", "s", "a", "out", "out"],
     ["preset-save", "s", "a", "out", "block=1"],
     ["preset_save", "s", "a", "out"],
+    ["gen"],
+    ["gen", ""],
+    ["gen", "-1"],
+    ["gen", "0x7"],
+    ["gen", "4294967296"],
+    ["gen", "00000000007"],
+    ["gen", "7", "7"],
+    ["gen", "7", "block=1"],
+    ["Gen", "7"],
     [b"render", b"\xff", b"in.wav", b"out.wav"],
 ]
 BLOCKS = ["", "0", "8193", "4294967297", "00000000001", "-1", "+1", "1 ", " 1", "x", "1.0", "\u0661"]
@@ -166,6 +175,7 @@ def unsaid_rows():
     return [
         Row("a report that can't be said", RENDER, GOOD, 7, "", {"out.wav": MONO}),
         Row("a text that can't be said", ["check", "s"], GOOD, 7, ""),
+        Row("a summary that can't be said", ["gen", "1"], GOOD, 7, ""),
         Row("no words, unsaid", [], GOOD, 1, ""),
         Row("a bad session, unsaid", RENDER, {"s": b"", "in.wav": MONO}, 2, ""),
         Row("a bad input, unsaid", RENDER, {"s": session(), "in.wav": b""}, 3, ""),

@@ -87,8 +87,11 @@ whole_since a b new output only whole = λ apart. now_since a b (told new.held o
 all_whole_since : (a b new : Store) (outputs : List Output) → OnlyReads a b → AllWhole b new outputs → AllWhole a new outputs
 all_whole_since a b new outputs only all = λ k d lt. whole_since a b new (get_or outputs k d) only (all k d lt)
 
+same_since : (a b new : Store) (name : List ℕ) → OnlyReads a b → told new.held name ≡ told b.held name → told new.held name ≡ told a.held name
+same_since a b new name only same = same ∙ ap (λ held. told held name) only.held
+
 as_before_since : (a b new : Store) (output : Output) → OnlyReads a b → IsAsBefore b new output → IsAsBefore a new output
-as_before_since a b new output only same = same ∙ ap (λ held. told held output.name) only.held
+as_before_since a b new output only same = λ apart. same_since a b new output.name only (same apart)
 
 all_as_before_since : (a b new : Store) (outputs : List Output) → OnlyReads a b → All (IsAsBefore b new) outputs → All (IsAsBefore a new) outputs
 all_as_before_since a b new outputs only all = λ k d lt. as_before_since a b new (get_or outputs k d) only (all k d lt)
@@ -97,7 +100,7 @@ abbrev Begun : Store → Store → Output → Type 0
 Begun old new output = (told new.held output.name ≡ told old.held output.name) ⊎ ((n : ℕ) × (n < length output.text) × HasNow old.complete (told new.held output.name) (take n output.text))
 
 begun_more : (a b new : Store) (output : Output) → OnlyReads a b → Begun b new output → Begun a new output
-begun_more a b new output only (inl same) = inl (as_before_since a b new output only same)
+begun_more a b new output only (inl same) = inl (same_since a b new output.name only same)
 begun_more a b new output only (inr part) = inr (part.0, part.1, now_since a b (told new.held output.name) (take part.0 output.text) only part.2)
 
 begun_since : (a b new : Store) (output : Output) → OnlyReads a b → IsBegun b new output → IsBegun a new output

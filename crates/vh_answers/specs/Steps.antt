@@ -70,7 +70,7 @@ AllGiven old (Last outputs report calls) = ⊤
 abbrev pub IsApart : Output → Type 0
 IsApart output = All (λ name. name ≢ output.name) output.apart
 
--- it has its text; it is as before, or has a front part of its text; it is as before
+-- it has its text; it is as before, or has a front part of its text; it is as before: each where its name is apart
 abbrev pub IsWhole : Store → Store → Output → Type 0
 IsWhole old new output = IsApart output → HasNow old.complete (told new.held output.name) output.text
 
@@ -79,7 +79,7 @@ IsBegun old new output = IsApart output
     → (told new.held output.name ≡ told old.held output.name) ⊎ ((n : ℕ) × (n < length output.text) × HasNow old.complete (told new.held output.name) (take n output.text))
 
 abbrev pub IsAsBefore : Store → Store → Output → Type 0
-IsAsBefore old new output = told new.held output.name ≡ told old.held output.name
+IsAsBefore old new output = IsApart output → told new.held output.name ≡ told old.held output.name
 
 abbrev pub AllWhole : Store → Store → List Output → Type 0
 AllWhole old new outputs = All (IsWhole old new) outputs

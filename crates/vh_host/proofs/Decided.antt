@@ -21,7 +21,7 @@ use Rattle.vh_preset.specs.declared.fault.PresetRefusal.{PresetRefusal}
 use Rattle.vh_preset.specs.Contents.{Contents, IsPreset}
 use Rattle.vh_preset.proofs.Presets.{preset_or_fault}
 use Rattle.vh_reading.specs.Reading.{IsRead, IsUnread, place_step, file_of, node_step}
-use Rattle.vh_host.specs.Words.{Render, Save, Command, Renders, Checks, Shows, Saves}
+use Rattle.vh_host.specs.Words.{Render, Save, Command, Renders, Checks, Shows, Saves, Generates}
 use Rattle.vh_host.specs.Known.{Known, scene_under, modes_under}
 use Rattle.vh_host.specs.Input.{Heard, Hears, head_in}
 use Rattle.vh_host.specs.Commands.{accepted_step, accepted_steps, session_steps, entries_then, played_steps, made_steps, begun_steps, named_steps, command_steps, steps_in}
@@ -104,6 +104,7 @@ command_decided known (Renders render) = opened_decided known render.session (be
 command_decided known (Checks name) = (session_never known.infos, inl (session_one known.infos), (λ content. tt))
 command_decided known (Shows name) = ((λ bytes preset kind says faulty. preset_never bytes preset kind says faulty), inr (λ preset. tt), (λ preset. tt))
 command_decided known (Saves save) = opened_decided known save.session (named_steps known save) (named_decided known save)
+command_decided known (Generates number) = tt
 
 -- each command, by its words and its files
 pub all_decided : (known : Known) (words : List (List ℕ)) → AllDecided (steps_in known words)

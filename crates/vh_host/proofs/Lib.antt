@@ -15,4 +15,5 @@ mod Saved
 mod Sized
 mod Sizes
 mod Split
+mod Sums
 mod Wires

@@ -55,7 +55,7 @@ two_bits n is = elim (eqb n 16) as (λ b. eqb n 16 ≡ b → b || eqb n 24 ≡ t
 ] refl is
 
 -- 16 bits or 24
-bits_are : (session : Session) → (session.bits ≡ 16) ⊎ (session.bits ≡ 24)
+pub bits_are : (session : Session) → (session.bits ≡ 16) ⊎ (session.bits ≡ 24)
 bits_are session = two_bits session.bits session.keeps.bits
 
 -- ---- lists of zeros
@@ -132,7 +132,7 @@ module _ {P C : Type 0} (processing : ProcessorMeaning P) (controlling : Control
         fresh.calls_are ∙ all_zero calls is.components.calls ∙ ap (λ (n : ℕ). replicate n 0) long
 
     -- its classes have the session's parameters
-    nodes_in : HasNodes (scene_in class_of kept) content.nodes
+    pub nodes_in : HasNodes (scene_in class_of kept) content.nodes
     nodes_in = subst (λ (scene : Scene). HasNodes scene content.nodes) (sym same_scene) (has_nodes (plan_of known content presets max) is.suited)
 
     pub nodes_there : node_count (scene_in class_of kept) ≡ length kept.session.nodes

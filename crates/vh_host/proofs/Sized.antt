@@ -5,7 +5,7 @@ use Rattle.std.specs.Option.{option_map}
 use Rattle.std.specs.Str.{bytes_eq}
 use Rattle.std.proofs.lemmas.Bool.{and_parts, leb-true}
 use Rattle.vh_text.specs.Numbers.{number_of, is_within}
-use Rattle.vh_host.specs.Words.{Command, Renders, if_size, block_in, behind_files, render_in, replay_in, check_in, show_in, save_in, command_in}
+use Rattle.vh_host.specs.Words.{Command, Renders, Generates, if_size, block_in, behind_files, render_in, replay_in, check_in, show_in, save_in, gen_in, command_in}
 use Rattle.vh_host.specs.Named.{IsSize, IsSized}
 
 -- what holds of a value, where there is one
@@ -74,6 +74,15 @@ save_sized (session ∷ node ∷ []) = tt
 save_sized (session ∷ node ∷ output ∷ []) = tt
 save_sized (session ∷ node ∷ output ∷ more ∷ words) = tt
 
+gen_size : (number : Option ℕ) → Of IsSized (option_map Generates number)
+gen_size None = tt
+gen_size (Some number) = tt
+
+gen_sized : (words : List (List ℕ)) → Of IsSized (gen_in words)
+gen_sized [] = tt
+gen_sized (number ∷ []) = gen_size (number_of number)
+gen_sized (number ∷ more ∷ words) = tt
+
 either : (b : Bool) (one other : Option Command) → Of IsSized one → Of IsSized other → Of IsSized (cond b one other)
 either true one other is also = is
 either false one other is also = also
@@ -85,7 +94,8 @@ all_sized (word ∷ words) =
     (either (bytes_eq word (codes "replay")) _ _ (replay_sized words)
     (either (bytes_eq word (codes "check")) _ _ (check_sized words)
     (either (bytes_eq word (codes "preset-show")) _ _ (show_sized words)
-    (either (bytes_eq word (codes "preset-save")) _ _ (save_sized words) tt))))
+    (either (bytes_eq word (codes "preset-save")) _ _ (save_sized words)
+    (either (bytes_eq word (codes "gen")) _ _ (gen_sized words) tt)))))
 
 -- a command that words are has blocks of 1 to 8192 frames, where they give a size
 pub is_sized : (words : List (List ℕ)) (command : Command) → Some command ≡ command_in words → IsSized command

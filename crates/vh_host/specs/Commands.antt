@@ -32,9 +32,10 @@ use Rattle.vh_answers.specs.Report.{report_text}
 use Rattle.vh_answers.specs.Each.{each_then}
 use Rattle.vh_answers.specs.Steps.{Step, Reads, Judges, Output, Steps, Then, Last}
 use Rattle.vh_reading.specs.Reading.{preset_step, node_step}
-use Rattle.vh_host.specs.Words.{Render, Save, Command, Renders, Checks, Shows, Saves, command_in}
+use Rattle.vh_host.specs.Words.{Render, Save, Command, Renders, Checks, Shows, Saves, Generates, command_in}
 use Rattle.vh_host.specs.Known.{Known, plan_of, scene_under, modes_under}
 use Rattle.vh_host.specs.Input.{Heard, Hears, head_in}
+use Rattle.vh_host.specs.Generated.{gen_steps}
 
 -- the words are a command's
 abbrev pub words_step : List (List ℕ) → Step Command
@@ -165,6 +166,7 @@ command_steps known (Renders render) = render_steps known render
 command_steps known (Checks name) = check_steps known.infos name
 command_steps known (Shows name) = show_steps name
 command_steps known (Saves save) = save_steps known save
+command_steps known (Generates number) = gen_steps known number
 
 -- the words first
 abbrev pub steps_in : Known → List (List ℕ) → Steps
@@ -177,3 +179,4 @@ outputs_of (Some (Renders render)) = render.output ∷ []
 outputs_of (Some (Checks name)) = []
 outputs_of (Some (Shows name)) = []
 outputs_of (Some (Saves save)) = save.output ∷ []
+outputs_of (Some (Generates number)) = []

@@ -1,6 +1,9 @@
 pub mod Words
 pub mod Known
 pub mod Input
+pub mod Generated
+pub mod Serves
+pub mod Drawn
 pub mod Commands
 pub mod Opened
 pub mod Material

@@ -7,7 +7,7 @@ use Rattle.vh_host.specs.declared.words.Command.{Command as Read}
 use Rattle.vh_host.specs.declared.words.Command.TheVariants as read
 use Rattle.vh_host.specs.declared.words.Render.{Render as Files}
 use Rattle.vh_host.specs.declared.words.Save.{Save as Saving}
-use Rattle.vh_host.specs.Words.{Render, Save, Command, Renders, Checks, Shows, Saves}
+use Rattle.vh_host.specs.Words.{Render, Save, Command, Renders, Checks, Shows, Saves, Generates}
 
 abbrev pub render_of : Files → Render
 render_of files = record { session = files.session.now; input = files.input.now; output = files.output.now; journal = option_map (λ name. name.now) files.journal; block = files.block }
@@ -20,6 +20,7 @@ command_of (read.Render files) = Renders (render_of files)
 command_of (read.Check session) = Checks session.now
 command_of (read.PresetShow preset) = Shows preset.now
 command_of (read.PresetSave files) = Saves (save_of files)
+command_of (read.Gen number) = Generates number
 
 abbrev pub commanded : Option Read → Option Command
 commanded None = None
@@ -40,3 +41,4 @@ IsSized (Renders render) = IsSize render.block
 IsSized (Checks name) = ⊤
 IsSized (Shows name) = ⊤
 IsSized (Saves save) = ⊤
+IsSized (Generates number) = ⊤

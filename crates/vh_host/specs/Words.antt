@@ -25,6 +25,8 @@ pub data Command : Type 0 where
   -- the preset's file
   Shows : List ℕ → Command
   Saves : Save → Command
+  -- a number
+  Generates : ℕ → Command
 
 abbrev pub if_size : Option ℕ → Option ℕ
 if_size None = None
@@ -67,7 +69,12 @@ abbrev pub save_in : List (List ℕ) → Option Command
 save_in (session ∷ node ∷ output ∷ []) = Some (Saves (record { session = session; node = node; output = output }))
 save_in _ = None
 
--- `render`, `replay`, `check`, `preset-show` and `preset-save`, each with its words; there is no other command yet
+-- `N`
+abbrev pub gen_in : List (List ℕ) → Option Command
+gen_in (number ∷ []) = option_map Generates (number_of number)
+gen_in _ = None
+
+-- `render`, `replay`, `check`, `preset-show`, `preset-save` and `gen`, each with its words; there is no other command yet
 abbrev pub command_in : List (List ℕ) → Option Command
 command_in [] = None
 command_in (word ∷ words) =
@@ -76,4 +83,5 @@ command_in (word ∷ words) =
     else (if bytes_eq word (codes "check") then check_in words
     else (if bytes_eq word (codes "preset-show") then show_in words
     else (if bytes_eq word (codes "preset-save") then save_in words
-    else None))))
+    else (if bytes_eq word (codes "gen") then gen_in words
+    else None)))))

@@ -3,6 +3,7 @@
 
 mod blocks;
 mod check;
+mod generated;
 mod input;
 mod journal;
 mod material;

@@ -9,8 +9,10 @@ ghost use Rattle.vh_host.specs.Words.{command_in};
 ghost use Rattle.vh_host.specs.Known.{Known, AreEnded};
 ghost use Rattle.vh_host.specs.Commands.{steps_in, command_steps, outputs_of};
 ghost use Rattle.vh_host.specs.Named.{command_of, status_of, IsSized};
+ghost use Rattle.vh_host.specs.Serves.{Serves};
 
 use crate::check::check;
+use crate::generated::generated;
 use crate::preset_save::preset_save;
 use crate::preset_show::preset_show;
 use crate::render::render;
@@ -29,6 +31,7 @@ fn run_command<F: Files, Y: Say, S: PluginSet>(
     set: &mut S,
 ) -> Result<(), Status>
     requires sized { IsSized (command_of command.now) }
+    requires serves { Serves (Some (command_of command.now)) (S.infos set.old) }
     ensures ends { EndsUnsaid (λ calls. S.work set.new ≡ raised_by calls (S.work set.old)) (outside F.Files Y.Say files.old files.new say.old say.new)
         (command_steps (record { infos = S.infos set.old; code = S.code set.old; class_of = S.P.Processor.class_of }) (command_of command.now)) (status_of result) }
     ensures others { ChangesOnly (outputs_of (Some (command_of command.now))) (F.held files.old) (F.held files.new) }
@@ -43,6 +46,7 @@ fn run_command<F: Files, Y: Say, S: PluginSet>(
         Command::Check(name) => check(alloc, name, files, say, set.classes()),
         Command::PresetShow(name) => preset_show(alloc, name, files, say),
         Command::PresetSave(asked) => preset_save(alloc, &asked, files, set),
+        Command::Gen(number) => generated(alloc, number, say, set),
     }
 }
 
@@ -54,6 +58,7 @@ fn run_words<F: Files, Y: Say, S: PluginSet>(
     say: &mut Y,
     set: &mut S,
 ) -> Status
+    requires { Serves (command_in (map string_bytes words.now)) (S.infos set.old) }
     ensures ends { EndsUnsaid (λ calls. S.work set.new ≡ raised_by calls (S.work set.old)) (outside F.Files Y.Say files.old files.new say.old say.new)
         (steps_in (record { infos = S.infos set.old; code = S.code set.old; class_of = S.P.Processor.class_of }) (map string_bytes words.now)) result }
     ensures others { ChangesOnly (outputs_of (command_in (map string_bytes words.now))) (F.held files.old) (F.held files.new) }
@@ -80,6 +85,9 @@ fn run_words<F: Files, Y: Say, S: PluginSet>(
 /// - `preset-show FILE` says what a preset has: its class, its version, and its chunks.
 /// - `preset-save SESSION NODE OUT` saves a node's class, its first values and its controller's state as the preset OUT,
 ///   and says nothing.
+/// - `gen N` renders the session that is drawn from the number N, 1 to 10 digits below 2^32, over an input and under a
+///   journal that are drawn too, and says how large they are and what the output adds up to. The set's first eight
+///   classes are the built-in ones.
 ///
 /// Behind the files of a rendering `block=N`, N from 1 to 8192, may stand: it cuts the rendering into blocks of N frames
 /// in place of the session's pattern, and changes no sample.
@@ -93,6 +101,7 @@ pub fn run<F: Files, Y: Say, S: PluginSet>(
     say: &mut Y,
     set: &mut S,
 ) -> Status
+    requires { Serves (command_in (map string_bytes words.now)) (S.infos set.old) }
     ensures answer { Answers (λ calls. S.work set.new ≡ raised_by calls (S.work set.old)) (outside F.Files Y.Say files.old files.new say.old say.new)
         (steps_in (record { infos = S.infos set.old; code = S.code set.old; class_of = S.P.Processor.class_of }) (map string_bytes words.now)) result }
     ensures others { ChangesOnly (outputs_of (command_in (map string_bytes words.now))) (F.held files.old) (F.held files.new) }

@@ -2,7 +2,7 @@
 
 ghost use Rattle.std.specs.Prelude.{◌≡◌, ◌≤◌, map};
 ghost use Rattle.std.specs.String.{string_bytes};
-ghost use Rattle.vh_host.specs.Words.{command_in, render_in, replay_in, check_in, show_in, save_in, behind_files, block_in};
+ghost use Rattle.vh_host.specs.Words.{command_in, render_in, replay_in, check_in, show_in, save_in, gen_in, behind_files, block_in};
 ghost use Rattle.vh_host.specs.Named.{commanded};
 
 use vh_text::number;
@@ -36,6 +36,8 @@ pub(crate) enum Command<'a> {
     /// And the preset's file.
     PresetShow(&'a str),
     PresetSave(Save<'a>),
+    /// And the number.
+    Gen(u32),
 }
 
 /// `block=N`, with N from 1 to 8192.
@@ -127,6 +129,16 @@ fn read_save(words: &[String]) -> Option<Command<'_>>
     }
 }
 
+/// `N`.
+fn read_gen(words: &[String]) -> Option<Command<'_>>
+    ensures { commanded result ≡ gen_in (map string_bytes words.now) }
+{
+    match words {
+        [word] => Some(Command::Gen(number(word.as_bytes())?)),
+        _ => None,
+    }
+}
+
 /// Reads the words of a command.
 pub(crate) fn read_words(words: &[String]) -> Option<Command<'_>>
     ensures { commanded result ≡ command_in (map string_bytes words.now) }
@@ -138,6 +150,7 @@ pub(crate) fn read_words(words: &[String]) -> Option<Command<'_>>
         "check" => read_check(rest),
         "preset-show" => read_show(rest),
         "preset-save" => read_save(rest),
+        "gen" => read_gen(rest),
         _ => None,
     }
 }

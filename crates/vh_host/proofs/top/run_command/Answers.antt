@@ -1,7 +1,7 @@
-use Rattle.std.proofs.Common.{◌≡◌, ℕ, List, Some, sym, subst, arith}
+use Rattle.std.proofs.Common.{◌≡◌, ℕ, List, Some, sym, ap, subst, arith}
 use Rattle.vh_params.specs.declared.class.ClassInfo.{ClassInfo}
 use Rattle.vh_plugin.specs.Counts.{raised_by}
-use Rattle.vh_answers.specs.Outside.{outside, voice, ChangesOnly}
+use Rattle.vh_answers.specs.Outside.{outside, store, voice, ChangesOnly}
 use Rattle.vh_answers.specs.Steps.{EndsUnsaid}
 use Rattle.vh_answers.proofs.Stages.{recounted}
 use Rattle.vh_host.specs.declared.words.Command.{Command as Read}
@@ -59,3 +59,13 @@ pub returns-in-PresetSave-clause-others : goal.returns-in-PresetSave-clause-othe
 returns-in-PresetSave-clause-others g c =
     subst (λ (command : Read). ChangesOnly (outputs_of (Some (command_of command))) (g.F.Files.held c.args.files.now) (g.F.Files.held c.preset_save.new.files)) (sym c.in-PresetSave.is)
     (only_one (g.F.Files.held c.args.files.now) (g.F.Files.held c.preset_save.new.files) c.in-PresetSave.asked.output.now c.preset_save.ensures.others)
+
+pub generated-requires-clause-classes : goal.generated-requires-clause-classes
+generated-requires-clause-classes g c κs within = c.requires.serves c.in-Gen.number (ap (λ (command : Read). Some (command_of command)) c.in-Gen.is)
+
+pub returns-in-Gen-clause-ends : goal.returns-in-Gen-clause-ends
+returns-in-Gen-clause-ends g c =
+    let o = outside g.F.Files g.Y.Say c.args.files.now c.args.files.now c.args.say.now c.generated.new.say in
+    let known : Known = record { infos = g.S.PluginSet.infos c.args.set.now; code = g.S.PluginSet.code c.args.set.now; class_of = g.S.P.Processor.class_of } in
+    subst (λ (command : Read). EndsUnsaid (λ calls. g.S.PluginSet.work c.generated.new.set ≡ raised_by calls (g.S.PluginSet.work c.args.set.now)) o (command_steps known (command_of command)) (status_of c.generated.result)) (sym c.in-Gen.is)
+    (c.generated.ensures.ends (store g.F.Files c.args.files.now))

@@ -1,4 +1,4 @@
-use Rattle.std.proofs.Common.{◌≡◌, map, Option, sym, subst}
+use Rattle.std.proofs.Common.{◌≡◌, ◌∙◌, map, Option, sym, subst}
 use Rattle.std.specs.String.{string_bytes}
 use Rattle.vh_plugin.specs.Counts.{raised_by}
 use Rattle.vh_answers.specs.Outside.{outside, ChangesOnly}
@@ -12,6 +12,9 @@ use Rattle.vh_host.proofs.top.run_words.Goals as goal
 
 pub run_command-requires-clause-sized : goal.run_command-requires-clause-sized
 run_command-requires-clause-sized g c κs within = is_sized (map string_bytes c.args.words.now) (command_of c.in-Some.command) c.in-Some.ensures
+
+pub run_command-requires-clause-serves : goal.run_command-requires-clause-serves
+run_command-requires-clause-serves g c κs within = λ number is. c.requires number (sym c.in-Some.ensures ∙ is)
 
 pub returns-in-Err-clause-ends : goal.returns-in-Err-clause-ends
 returns-in-Err-clause-ends g c =
