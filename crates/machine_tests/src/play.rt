@@ -5,6 +5,7 @@ ghost use Rattle.vh_session.specs.Keeps.{StandsUnder};
 ghost use Rattle.vh_session.specs.Names.{content_of};
 
 use crate::players::{first_values, players};
+use engine_part::Heard;
 use std::alloc::{AllocError, Global};
 use vh_builtin::BuiltIn;
 use vh_core::{Event, Machine};
@@ -35,6 +36,23 @@ impl Ran {
             values: Vec::from_slice(alloc, machine.values())?,
             controllers: Vec::from_slice(alloc, machine.controllers())?,
         })
+    }
+
+    /// Whether it has the frames and values that an engine made of its journal. From a silent input all frames
+    /// are silent, so their order isn't told apart.
+    pub(crate) fn is_heard(&self, heard: &Heard) -> bool {
+        self.frames == heard.samples
+            && self.values == heard.values
+            && self.controllers == heard.values
+    }
+
+    /// Whether another machine came to the same, by whatever was put.
+    pub(crate) fn is_like(&self, other: &Ran) -> bool {
+        self.journal == other.journal
+            && self.pos == other.pos
+            && self.frames == other.frames
+            && self.values == other.values
+            && self.controllers == other.controllers
     }
 }
 

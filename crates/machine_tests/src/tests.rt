@@ -1,5 +1,6 @@
 //! Runs by content, and beside the engine.
 
+use crate::drawn::fault_of;
 use crate::play::{Ran, run};
 use std::alloc::Global;
 use std::test::Fail;
@@ -16,27 +17,27 @@ const GAIN: &str =
 const TAP: &str =
     "vsthost session 1\nlength 64\nchannels 1\nbits 16\npattern 64\nnode t tap\nwire in t\nwire t out\n";
 
-/// A node of each class.
-const ALL: &str =
-    "vsthost session 1\nlength 100\nchannels 2\nbits 24\npattern 64\nnode a gain\nnode b balance\nnode c delay\nnode d onepole\nnode e crusher\nnode f gate\nnode g meter\nnode h tap\nparam a 0 4194304\nparam c 0 40970\nparam e 0 9000000\nwire in a\nwire a b\nwire b c\nwire c d\nwire d e\nwire e f\nwire a f aux\nwire f g\nwire g h\nwire h out\nlane a 0 3 5 100000\npoint 60 16000000\npoint 90 500000\nlane d 0 0 0 0\npoint 100 16777216\n";
+/// A node of each class. A block begins at each sample, so edits may stand at any.
+pub(crate) const ALL: &str =
+    "vsthost session 1\nlength 100\nchannels 2\nbits 24\npattern 1\nnode a gain\nnode b balance\nnode c delay\nnode d onepole\nnode e crusher\nnode f gate\nnode g meter\nnode h tap\nparam a 0 4194304\nparam c 0 40970\nparam e 0 9000000\nwire in a\nwire a b\nwire b c\nwire c d\nwire d e\nwire e f\nwire a f aux\nwire f g\nwire g h\nwire h out\nlane a 0 3 5 100000\npoint 60 16000000\npoint 90 500000\nlane d 0 0 0 0\npoint 100 16777216\n";
 
 /// An editor's gesture on a parameter of a node begins.
-fn begin(editor: u32, node: u32) -> Event {
+pub(crate) fn begin(editor: u32, node: u32) -> Event {
     edit(editor, Command::Begin { node, id: 0 })
 }
 
 /// The parameter takes a value.
-fn perform(editor: u32, node: u32, value: u32) -> Event {
+pub(crate) fn perform(editor: u32, node: u32, value: u32) -> Event {
     edit(editor, Command::Perform { node, id: 0, value })
 }
 
 /// The gesture ends.
-fn end(editor: u32, node: u32) -> Event {
+pub(crate) fn end(editor: u32, node: u32) -> Event {
     edit(editor, Command::End { node, id: 0 })
 }
 
 /// A message of one word.
-fn tell(editor: u32, node: u32, word: u32) -> Event {
+pub(crate) fn tell(editor: u32, node: u32, word: u32) -> Event {
     let words = Words::new(&[word]);
     edit(editor, Command::Tell { node, words })
 }
@@ -49,12 +50,12 @@ fn edit(editor: u32, command: Command) -> Event {
 }
 
 /// So much of what waits is taken, and so many frames are played.
-fn audio(take: u32, frames: u32) -> Event {
+pub(crate) fn audio(take: u32, frames: u32) -> Event {
     Audio { take, frames }
 }
 
 /// So much of what comes back reaches the controllers.
-fn back(take: u32) -> Event {
+pub(crate) fn back(take: u32) -> Event {
     Back { take }
 }
 
@@ -161,17 +162,11 @@ fn replies_and_echoes_come_back_in_their_order(rt: HostRuntime) -> Result<(), Fa
     Ok(())
 }
 
-/// Whether an engine that plays the journal to which these events come has the machine's frames and values. From a
-/// silent input all frames are silent, so their order isn't told apart.
+/// Whether an engine that plays the journal to which these events come has the machine's frames and values.
 fn is_as_played(alloc: Global, events: &[Event]) -> Result<bool, Fail> {
     let ran = come(alloc, ALL, events)?;
     let heard = engine_part::play(alloc, ALL, &[0; 200], 64, &ran.journal)?.ok_or("no rendering")?;
-    Ok(
-        !ran.journal.is_empty()
-            && ran.values == heard.values
-            && ran.controllers == heard.values
-            && ran.frames == heard.samples,
-    )
+    Ok(!ran.journal.is_empty() && ran.is_heard(&heard))
 }
 
 #[test]
@@ -200,5 +195,13 @@ fn a_machine_comes_to_what_an_engine_plays(rt: HostRuntime) -> Result<(), Fail> 
     let alloc = rt.alloc();
     assert!(rt; is_as_played(alloc, &gesture)?);
     assert!(rt; is_as_played(alloc, &messages)?);
+    Ok(())
+}
+
+#[test]
+fn drawn_journals_are_played_alike(rt: HostRuntime) -> Result<(), Fail> {
+    for seed in 0..40 {
+        assert_eq!(rt; fault_of(rt.alloc(), seed)?, "", "at {seed}");
+    }
     Ok(())
 }
