@@ -14,6 +14,10 @@ pub each_append : {A : Type 0} → (P : A → Type 0) (xs ys : List A) → AllBy
 each_append P [] ys each each' = each'
 each_append P (x ∷ xs) ys each each' = (each.0, each_append P xs ys each.1 each')
 
+pub each_left : {A : Type 0} → (P : A → Type 0) (xs ys : List A) → AllByRecursion P (xs ++ ys) → AllByRecursion P xs
+each_left P [] ys each = tt
+each_left P (x ∷ xs) ys each = (each.0, each_left P xs ys each.1)
+
 pub each_both : {A : Type 0} → (P Q R : A → Type 0) → ((a : A) → P a → Q a → R a) → (xs : List A) → AllByRecursion P xs → AllByRecursion Q xs → AllByRecursion R xs
 each_both P Q R f [] each each' = tt
 each_both P Q R f (x ∷ xs) each each' = (f x each.0 each'.0, each_both P Q R f xs each.1 each'.1)

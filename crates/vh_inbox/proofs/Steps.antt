@@ -14,9 +14,9 @@ use Rattle.vh_inbox.specs.declared.rule.DeskList.{DeskList}
 use Rattle.vh_inbox.specs.declared.rule.View.{View}
 use Rattle.vh_inbox.specs.Lists.{total, below, item, of, numbered, desk_list, empty_lists}
 use Rattle.vh_inbox.specs.Rule.{pass_view, desk_view, drain_view, spent, Knows, Fits, Kept}
-use Rattle.vh_inbox.specs.Facts.{IsWithin, IsWithinQuotas, HasLists, sent_in}
+use Rattle.vh_inbox.specs.Facts.{IsWithin, IsWithinQuotas, AreOfDesks, HasLists, sent_in}
 use Rattle.vh_inbox.proofs.Sums.{total_append, total_set, total_two, total_gap, total_all, total_ones, total_same, each_le, below_ones, one_at, one_here, below_one, sum_is_below, total_empty}
-use Rattle.vh_inbox.proofs.Places.{each_map, each_append, each_both, places_set, places_snoc}
+use Rattle.vh_inbox.proofs.Places.{each_map, each_left, each_append, each_both, places_set, places_snoc}
 use Rattle.vh_inbox.proofs.Items.{of_here, of_elsewhere, numbered-push, length-numbered, length_log, lists_elsewhere}
 
 -- what a view's lists weigh
@@ -332,6 +332,8 @@ learns_lists port v drains items views kept at = record {
       (each_map (Knows kept.quotas log v.quotas) (λ list. length (of list.number log) ≡ length list.sent) (λ list k. ap length k.items ∙ length-numbered list.number 0 list.sent) v.lists mine.lists) in
       let long : length log ≡ length kept.taken + length items = length-append kept.taken items in
       omega (arith, long, log_is kept, here, sent, ap length (mine.took drains));
+  editors = subst (λ (v : List ℕ × List Item). AreOfDesks (length v.0) v.1) (λ i. (sym (mine.shares drains) i, sym (mine.took drains) i))
+      (each_left (λ (i : Item). i.editor < length kept.quotas) kept.taken items kept.editors);
 }
   where
     log : List Item

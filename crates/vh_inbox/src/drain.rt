@@ -1,9 +1,9 @@
-ghost use Rattle.std.specs.Prelude.{◌≡◌, true, ◌≤◌, ◌++◌, ◌∷◌, [], List, length, map, vec_capacity, IfSome, IfNone};
+ghost use Rattle.std.specs.Prelude.{◌≡◌, true, ◌<◌, ◌≤◌, ◌++◌, ◌∷◌, [], List, length, map, All, vec_capacity, IfSome, IfNone};
 ghost use Rattle.std.specs.List.{AllByRecursion};
 ghost use Rattle.std.specs.Arc.{arc_value};
 ghost use Rattle.crossbeam_queue.specs.Passes.{view, IsPassOf, ruled_capacity};
 ghost use Rattle.vh_inbox.specs.Lists.{desk_list};
-ghost use Rattle.vh_inbox.specs.Facts.{sent_in};
+ghost use Rattle.vh_inbox.specs.Facts.{AreOfDesks, sent_in};
 ghost use Rattle.vh_inbox.specs.Values.{item_of, entry_at, IsUpTo, HasAll, Begins, Are};
 
 use crate::desk::Desk;
@@ -44,7 +44,7 @@ impl Drain {
 
     /// Moves commands into the journal, oldest first, at a sample, until the queue was found empty or the
     /// journal's spare room is used. It takes no memory.
-    #[tactic(auto, using(crate::proofs::Learned::are_begins))]
+    #[tactic(auto, using(crate::proofs::Learned::are_begins, crate::proofs::Learned::entries_of_desks))]
     pub fn take_all<R: Wait>(&mut self, rt: &R, at: u32, journal: &mut Vec<Entry>)
         requires journal { map item_of journal.old.items ≡ self.old.taken }
         requires at { IsUpTo at journal.old.items }
@@ -52,6 +52,7 @@ impl Drain {
         ensures journal { (taken : List _) × (journal.new.items ≡ journal.old.items ++ map (entry_at at) taken) }
         ensures at { IsUpTo at journal.new.items }
         ensures capacity { vec_capacity journal.new ≡ vec_capacity journal.old }
+        ensures editors { All (λ entry. entry.editor < length self.old.quotas) journal.new.items }
         ensures begins { AllByRecursion (Begins (map item_of journal.new.items)) self.old.lists }
         ensures all { HasAll self.old → sent_in self.old.lists ≤ vec_capacity journal.old → AllByRecursion (Are (map item_of journal.new.items)) self.old.lists }
     {
@@ -79,7 +80,7 @@ impl Drain {
     #[tactic(auto, using(crate::proofs::Learned::all_at_empty))]
     fn next<R: Wait>(&mut self, rt: &R) -> Option<Item>
         ensures taken { IfSome result (λ taken. self.new ≡ record self.old { taken = self.old.taken ++ taken ∷ [] }) }
-        ensures empty { IfNone result ((self.new ≡ self.old) × AllByRecursion (Are self.old.taken) self.old.lists) }
+        ensures empty { IfNone result ((self.new ≡ self.old) × AllByRecursion (Are self.old.taken) self.old.lists × AreOfDesks (length self.old.quotas) self.old.taken) }
     {
         self.line.pop_as::<Takes, R>(rt, &mut self.pass)
     }
@@ -89,6 +90,7 @@ impl Drain {
     fn look(&mut self)
         ensures same { self.new ≡ self.old }
         ensures begins { AllByRecursion (Begins self.old.taken) self.old.lists }
+        ensures editors { AreOfDesks (length self.old.quotas) self.old.taken }
         ensures all { HasAll self.old → sent_in self.old.lists ≤ length self.old.taken → AllByRecursion (Are self.old.taken) self.old.lists }
     {
         self.line.learn_as::<Takes>(&mut self.pass);
