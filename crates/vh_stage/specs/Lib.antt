@@ -1,0 +1,4 @@
+pub mod Carried
+pub mod Parameters
+pub mod Playing
+pub mod Staged
