@@ -67,7 +67,7 @@ accepted_never : (known : Known) (content : Content) (presets : List (Option Con
 accepted_never known content presets = λ accepted refused are is. let e : None ≡ Some refused.1 = sym (are refused.0 is.within) ∙ is.refused in cc
 
 -- a session, and what follows from it and its presets
-opened_decided : (known : Known) (name : List ℕ) (next : Content → List (Option Contents) → Steps) → ((content : Content) (presets : List (Option Contents)) → AllDecided (next content presets)) → AllDecided (session_steps known name next)
+pub opened_decided : (known : Known) (name : List ℕ) (next : Content → List (Option Contents) → Steps) → ((content : Content) (presets : List (Option Contents)) → AllDecided (next content presets)) → AllDecided (session_steps known name next)
 opened_decided known name next later = (
   session_never known.infos,
   inl (session_one known.infos),
@@ -76,7 +76,7 @@ opened_decided known name next later = (
 )
 
 -- what is heard
-heard_one : (channels : ℕ) (bytes : List ℕ) (x y : Heard) → Hears channels bytes x → Hears channels bytes y → x ≡ y
+pub heard_one : (channels : ℕ) (bytes : List ℕ) (x y : Heard) → Hears channels bytes x → Hears channels bytes y → x ≡ y
 heard_one channels bytes x y one other =
     let same : one.head ≡ other.head = let e : Ok one.head ≡ Ok other.head = sym one.accepted ∙ other.accepted in cc in
     let rates : x.rate ≡ y.rate = one.rate_is ∙ ap (λ (h : Head). h.rate) same ∙ sym other.rate_is in
@@ -84,7 +84,7 @@ heard_one channels bytes x y one other =
     let of : ℕ → List Frame → Heard = λ rate heard. record { rate = rate; frames = heard } in
     ap (λ (rate : ℕ). of rate x.frames) rates ∙ ap (λ (heard : List Frame). of y.rate heard) frames
 
-heard_never : (channels : ℕ) (bytes : List ℕ) (x : Heard) (fault : WavFault) → Hears channels bytes x → head_in channels bytes ≡ Err fault → ⊥
+pub heard_never : (channels : ℕ) (bytes : List ℕ) (x : Heard) (fault : WavFault) → Hears channels bytes x → head_in channels bytes ≡ Err fault → ⊥
 heard_never channels bytes x fault hears err = let e : Ok hears.head ≡ Err fault = sym hears.accepted ∙ err in cc
 
 -- the commands

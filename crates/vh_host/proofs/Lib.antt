@@ -1,18 +1,18 @@
 mod Bands
-mod Calls
-mod Decided
+pub mod Calls
+pub mod Decided
 mod Entries
 mod Gathering
 mod Hearing
-mod Opened
-mod Outcomes
+pub mod Opened
+pub mod Outcomes
 mod Playing
 mod Readings
 mod Ready
 mod Rendered
-mod Replies
+pub mod Replies
 mod Saved
-mod Sized
+pub mod Sized
 mod Sizes
 mod Split
 mod Sums

@@ -53,7 +53,7 @@ pub given_since : (old mid : Store) (content : Content) (presets : List (Option 
 given_since old mid content presets only all = record { each = all.each; gives = λ node d lt. gives_since old mid (Option Contents) (node_step content node) (get_or presets node d) only (all.gives node d lt) }
 
 -- what halts at a session or at its presets halts whatever follows
-each_on : {X : Type 0} (old new : Store) (step : ℕ → Step X) (from left : ℕ) (given : List X) (first second : List X → Steps) (answer : Status)
+pub each_on : {X : Type 0} (old new : Store) (step : ℕ → Step X) (from left : ℕ) (given : List X) (first second : List X → Steps) (answer : Status)
     → ((xs : List X) → Stopped old new (first xs) answer → Stopped old new (second xs) answer) → Stopped old new (each_then step from left given first) answer → Stopped old new (each_then step from left given second) answer
 each_on old new step from zero given first second answer onto stopped = onto given stopped
 each_on old new step from (suc left) given first second answer onto (inl stops) = inl stops

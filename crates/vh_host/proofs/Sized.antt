@@ -9,7 +9,7 @@ use Rattle.vh_host.specs.Words.{Command, Renders, Generates, if_size, block_in, 
 use Rattle.vh_host.specs.Named.{IsSize, IsSized}
 
 -- what holds of a value, where there is one
-abbrev Of : {A : Type 0} → (A → Type 0) → Option A → Type 0
+abbrev pub Of : {A : Type 0} → (A → Type 0) → Option A → Type 0
 Of P None = ⊤
 Of P (Some x) = P x
 
@@ -33,7 +33,7 @@ one_size : (block : Option ℕ) → Of (λ size. IsSize (Some size)) block → O
 one_size None is = tt
 one_size (Some size) is = is
 
-size_behind : (words : List (List ℕ)) → Of IsSize (behind_files words)
+pub size_behind : (words : List (List ℕ)) → Of IsSize (behind_files words)
 size_behind [] = tt
 size_behind (word ∷ []) = one_size (block_in word) (size_in word)
 size_behind (word ∷ more ∷ words) = tt

@@ -8,9 +8,9 @@ use vh_session::Session;
 
 /// The sizes of blocks, which take turns, and the longest.
 #[derive(Drop)]
-pub(crate) struct Blocks {
-    pub(crate) sizes: Vec<u32>,
-    pub(crate) longest: u32,
+pub struct Blocks {
+    pub sizes: Vec<u32>,
+    pub longest: u32,
     ghost some: { 1 ≤ longest },
     ghost most: { longest ≤ 8192 },
     ghost each: { All (λ size. size ≤ longest) sizes.items },

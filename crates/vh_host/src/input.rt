@@ -16,9 +16,9 @@ use vh_wav::{Head, HeadRefused, WavFault, read_head};
 
 /// An input: its frames a second, and as many frames of it as a session has.
 #[derive(Drop)]
-pub(crate) struct Input {
-    pub(crate) rate: u32,
-    pub(crate) sound: Sound,
+pub struct Input {
+    pub rate: u32,
+    pub sound: Sound,
 }
 
 /// Reads the head of an input of so many channels.
@@ -42,7 +42,7 @@ fn read_head_of<F: Files>(files: &mut F, name: &str, channels: u16) -> Result<He
 }
 
 /// Reads the input of a session of so many channels and frames.
-pub(crate) fn read_input<F: Files>(
+pub fn read_input<F: Files>(
     alloc: Global,
     files: &mut F,
     name: &str,

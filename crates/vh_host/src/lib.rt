@@ -1,4 +1,4 @@
-//! The top calls of the host.
+//! The top calls of the host, and parts that serve other top calls too.
 #![tactic(auto)]
 
 mod blocks;
@@ -15,5 +15,10 @@ mod session;
 mod top;
 mod words;
 
+pub use blocks::Blocks;
+pub use input::{Input, read_input};
+pub use opening::{Opening, open_session};
+pub use render::modes;
 pub use top::run;
 pub use vh_answers::{Place, Status};
+pub use words::read_block;

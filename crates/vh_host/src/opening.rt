@@ -26,15 +26,15 @@ use vh_reading::read_presets;
 use vh_session::Session;
 
 /// A session, its blocks, and its instances.
-pub(crate) struct Opening<P, C> {
-    pub(crate) session: Session,
-    pub(crate) blocks: Blocks,
-    pub(crate) band: Band<P, C>,
+pub struct Opening<P, C> {
+    pub session: Session,
+    pub blocks: Blocks,
+    pub band: Band<P, C>,
 }
 
 /// Reads a session and its presets, and makes its instances for blocks of the one size that words give, of 1 to 8192
 /// frames, or else of the session's sizes. After a refusal all that was made is ended.
-pub(crate) fn open_session<F: Files, S: PluginSet>(
+pub fn open_session<F: Files, S: PluginSet>(
     alloc: Global,
     files: &mut F,
     set: &mut S,

@@ -53,7 +53,7 @@ fn block(word: &[u8]) -> Option<u32>
 }
 
 /// The words behind the files of a rendering: none, or one `block=N`.
-fn read_block(words: &[String]) -> Option<Option<u32>>
+pub fn read_block(words: &[String]) -> Option<Option<u32>>
     ensures { result ≡ behind_files (map string_bytes words.now) }
 {
     match words {
