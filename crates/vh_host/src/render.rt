@@ -42,7 +42,10 @@ use vh_render::{Room, Score};
 use vh_session::Session;
 
 /// How each node's controller shows its values.
-pub fn modes<C: Controller + Drop>(alloc: Global, edits: &[Opened<C>]) -> Result<Vec<u32>, AllocError>
+pub fn modes<C: Controller + Drop>(
+    alloc: Global,
+    edits: &[Opened<C>],
+) -> Result<Vec<u32>, AllocError>
     ensures { IfOk result (λ modes. modes.items ≡ of_openers C.mode edits.now) }
 {
     let mut modes = Vec::new(alloc);
