@@ -1,0 +1,4 @@
+pub mod Bands
+pub mod Heard
+pub mod Runs
+pub mod Closing
