@@ -1,0 +1,11 @@
+mod Asked
+mod Counted
+mod Finished
+mod Headline
+mod Lives
+mod Pieces
+mod Published
+mod Replied
+mod SameInput
+mod Waves
+mod Woven
