@@ -1,6 +1,7 @@
 """What the program answers to words over files, as docs/formats.md tells, by none of its means."""
 import functools
 
+import gesture_reference
 import journal_reference
 import preset_reference
 import session_reference
@@ -8,10 +9,12 @@ import wav_reference
 from classes_reference import PARAMETERS
 from rendering_reference import Entry, first_values, pieces, render, report
 
+NOTHING_DONE = b"vsthost journal 1\nclose\n"
 COMMANDS = {  # with the places of their words
     "check": ["session"],
     "render": ["session", "input", "output"],
     "replay": ["session", "input", "output", "journal"],
+    "live": ["session", "input", "output", "journal"],
     "preset-show": ["preset"],
     "preset-save": ["session", "node", "output"],
 }
@@ -30,7 +33,7 @@ def names_of(words):
     command, *names = words or [""]
     places = COMMANDS.get(command, [])
     block = None
-    if command in ("render", "replay") and len(names) == len(places) + 1:
+    if command in ("render", "replay", "live") and len(names) == len(places) + 1:
         last = names.pop()
         block = number(last.removeprefix("block=")) if last.startswith("block=") else None
         if block is None or not 1 <= block <= 8192:
@@ -114,7 +117,7 @@ def rendered(session, loaded, sound, journal):
     return entries, rendering, wav_reference.file_of(rendering.channels, rate, session.once[b"bits"][0])
 
 
-def done(words, files):
+def done(words, files, played):
     command, names, block = names_of(words)
     if command == "preset-show":
         return 0, preset_reference.listing(preset_of(files, names["preset"], "-")), {}
@@ -125,16 +128,22 @@ def done(words, files):
     if command == "preset-save":
         return 0, "", {names["output"]: saved_of(session, names["node"].encode(), loaded)}
     sound_of(content(files, names["input"], "input"), session)
-    journal = content(files, names["journal"], "journal") if command == "replay" else None
+    journal = content(files, names["journal"], "journal") if command == "replay" else played if command == "live" else None
     entries, rendering, out = rendered(files[names["session"]], tuple(loaded.items()), files[names["input"]], journal)
     stops = [entry.sample for entry in entries if entry.verb == b"tell"]
     count = pieces(session.once[b"length"][0], [block] if block else session.once[b"pattern"], stops)
-    return 0, report(session, loaded, rendering, count), {names["output"]: out}
+    if command != "live":
+        return 0, report(session, loaded, rendering, count), {names["output"]: out}
+    flaws = list(gesture_reference.flaws(session, entries, block))
+    if flaws:
+        raise Refused(0, f"no journal of the session's editors: {flaws[0]}\n")
+    return 0, report(session, loaded, rendering, count, gesture_reference.editor_lines(session)), {names["output"]: out, names["journal"]: played}
 
 
-def answer(words, files):
-    """The status of a command over these files, what is said, and the files that change."""
+def answer(words, files, played=NOTHING_DONE):
+    """The status of a command over these files, what is said, and the files that change; of `live`, where its editors made
+    this journal."""
     try:
-        return done(words, files)
+        return done(words, files, played)
     except Refused as refused:
         return *refused.args, {}

@@ -151,11 +151,12 @@ def value_text(parameter, value):
     return text + (f" {parameter.units}" if parameter.units else "")
 
 
-def report(session, loaded, rendering, count):
+def report(session, loaded, rendering, count, editors=()):
+    """What is said of a rendering in so many pieces, with these lines of the editors."""
     lines = ["vsthost report 1", f"frames {session.once[b'length'][0]}", f"pieces {count}"]
     for name, (_, kind, _) in session.nodes.items():
         texts = not (name in loaded and loaded[name].mode)
         for identifier, (parameter, value) in enumerate(zip(PARAMETERS[kind], rendering.values[name])):
             lines.append(f"param {name.decode()} {identifier} {value}" + f" {value_text(parameter, value)}" * texts)
     lines += [" ".join(map(str, ["reply", name.decode(), sample, *words])) for name, sample, words in rendering.replies]
-    return "".join(line + "\n" for line in [*lines, "close"])
+    return "".join(line + "\n" for line in [*lines, *editors, "close"])

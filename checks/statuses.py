@@ -42,7 +42,12 @@ USAGE = [
     [*RENDER, "out.wav"],
     [*RENDER, "block=1", "block=1"],
     ["render", "block=1", *RENDER[1:]],
-    ["live", *RENDER[1:], "j"],
+    ["live"],
+    ["live", *RENDER[1:]],
+    ["live", *RENDER[1:], "j", "k"],
+    ["live", *RENDER[1:], "j", "block=1", "block=1"],
+    ["Live", *RENDER[1:], "j"],
+    ["--help", "live"],
     ["preset-show"],
     ["preset-show", "p", "out"],
     ["preset-show", "p", "block=1"],
@@ -216,7 +221,7 @@ def check_short_memory(tally, work):
     if run(folder, RENDER, **little) != (0, REPORT):
         print("checks: no little memory can be given here, and what comes of it is skipped")
         return
-    for words in [RENDER, ["check", "s"]]:
+    for words in [RENDER, ["check", "s"], ["live", *RENDER[1:], "j"]]:
         files = {"s": large, "in.wav": MONO, "out.wav": b"was here"}
         folder = folder_with(work, files)
         tally.expect(f"{words[0]} in little memory", run(folder, words, **little), (8, ""))
