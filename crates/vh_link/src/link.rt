@@ -116,6 +116,44 @@ impl<'a, F: Files> WavLink<'a, F> {
         })
     }
 
+    /// Creates the output and adds its head for so many frames, at most 2^24, which may then be added.
+    ///
+    /// After a failure none may be, and the output is as before or has a front part of its head.
+    pub fn start(&mut self, frames: u32) -> Result<(), Failed>
+        requires room { self.old.room ≡ 0 }
+        requires pushed { self.old.pushed ≡ 0 }
+        requires frames { frames ≤ 2 ^ 24 }
+        ensures text { OnOk result (HasNow (F.complete self.old.store) (told (F.held self.new.store) self.old.output) (head_text self.old.head.channels self.old.head.rate self.old.bits frames)) }
+        ensures part { OnErr result ((F.held self.new.store ≡ F.held self.old.store) ⊎ HasPart (F.complete self.old.store) (told (F.held self.new.store) self.old.output) (head_text self.old.head.channels self.old.head.rate self.old.bits frames)) }
+        ensures others { SameElsewhere self.old.output (F.held self.old.store) (F.held self.new.store) }
+        ensures room { OnOk result (self.new ≡ record self.old { store = self.new.store; started = true; room = frames }) }
+        ensures no_room { OnErr result (self.new ≡ record self.old { store = self.new.store; started = false }) }
+        ensures reads { (input : List Frame) → Reads F.held self.old input → Reads F.held self.new input }
+        ensures wrote { (frames : List Frame) → Wrote F.complete F.held self.old frames → Wrote F.complete F.held self.new frames }
+        ensures failed { OnErr result (Rose (F.write_faults self.old.store) (F.write_faults self.new.store)) }
+        ensures later { F.write_faults self.old.store ≤ F.write_faults self.new.store }
+        ensures complete { F.complete self.new.store ≡ F.complete self.old.store }
+        ensures read_faults { F.read_faults self.new.store ≡ F.read_faults self.old.store }
+    {
+        match write_head(
+            &mut *self.files,
+            self.output.as_str(),
+            &self.head,
+            self.bits,
+            frames,
+        ) {
+            Ok(()) => {
+                self.started = true;
+                self.room = frames;
+                Ok(())
+            }
+            Err(failed) => {
+                self.started = false;
+                Err(failed)
+            }
+        }
+    }
+
     /// Gives the store back.
     pub fn into_files(self) -> &'a mut F
         ensures loan { result.ghost_name ≡ self.entry.loan }
@@ -137,5 +175,67 @@ impl<'a, F: Files> WavLink<'a, F> {
             kept: _,
         } = self;
         files
+    }
+}
+
+impl<'a, F: Files> Frames for WavLink<'a, F> {
+    ghost use Rattle.vh_link.specs.Link.{Reads, Wrote, Fixed, fixed_of};
+
+    ghost channels = { λ l. l.head.channels };
+
+    ghost room = { λ l. l.room };
+
+    ghost pushed = { λ l. l.pushed };
+
+    ghost max = { λ l. l.max };
+
+    ghost reads = { Reads F.held };
+
+    ghost wrote = { Wrote F.complete F.held };
+
+    ghost cut = { λ l. l.cut };
+
+    ghost pull_faults = { λ l. F.read_faults l.store };
+
+    ghost push_faults = { λ l. F.write_faults l.store };
+
+    ghost Rest = { Fixed };
+
+    ghost rest = { fixed_of F.complete F.held };
+
+    fn pull(&mut self, n: usize, out: &mut [i32]) -> Result<(), Failed> {
+        read_frames(
+            &mut *self.files,
+            self.input.as_str(),
+            &self.head,
+            self.at,
+            n,
+            &mut self.bytes,
+            out,
+        )?;
+        self.at += (n as u64).min(self.head.frames - self.at);
+        Ok(())
+    }
+
+    fn push(&mut self, n: usize, frames: &[i32]) -> Result<(), Failed> {
+        match write_frames(
+            &mut *self.files,
+            self.output.as_str(),
+            self.head.channels,
+            self.bits,
+            n,
+            frames,
+            &mut self.bytes,
+        ) {
+            Ok(()) => {
+                self.pushed += n as u32;
+                Ok(())
+            }
+            Err(failed) => {
+                keep(frames, &mut self.cut);
+                self.kept = frames.len();
+                Err(failed)
+            }
+        }
     }
 }
