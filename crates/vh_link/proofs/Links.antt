@@ -1,5 +1,5 @@
 -- Reading and writing through a link.
-use Rattle.std.proofs.Common.{◌≡◌, ◌≢◌, ◌∙◌, ℕ, zero, suc, ◌+◌, ◌*◌, ◌-◌, ◌<◌, ◌≤◌, min, Bool, true, false, cond, List, [], ◌∷◌, ◌++◌, length, take, drop, map, Option, Some, None, get_or, ℤ, refl, sym, ap, subst, append_assoc, arith, inl, inr, ⊎_elim, ◌⊎◌}
+use Rattle.std.proofs.Common.{◌≡◌, ◌≢◌, ◌∙◌, ℕ, zero, suc, ◌+◌, ◌*◌, ◌-◌, ◌<◌, ◌≤◌, min, Bool, true, false, cond, List, [], ◌∷◌, ◌++◌, length, take, drop, map, Option, Some, None, Result, Ok, Err, get_or, ℤ, refl, sym, ap, subst, append_assoc, arith, inl, inr, ⊎_elim, ◌⊎◌}
 use Rattle.std.proofs.lemmas.Bool.{false≢true}
 use Rattle.std.proofs.lemmas.Grind.{flat_map-append}
 use Rattle.std.proofs.lemmas.List.{append-nil, get_or_default, length-append, nil_from_length}
@@ -7,19 +7,23 @@ use Rattle.std.proofs.lemmas.List.Elements.{All-append}
 use Rattle.std.proofs.lemmas.List.FromFn.{length-map-range_with_len}
 use Rattle.std.proofs.lemmas.Map.Text.{is_eq-slice_cmp}
 use Rattle.std.proofs.lemmas.Slice.Eq.{bytes_eq-Decides}
-use Rattle.std.proofs.Math.Seq.{take-nil}
+use Rattle.std.proofs.Math.Seq.{take-nil, take-append-add}
 use Rattle.std.specs.Cmp.Lexicographic.{nat_list_cmp_total, slice_cmp}
 use Rattle.std.specs.FinMap.{get, remove, get-remove, same_map, nat_cmp-IsAntisymmetric, slice_cmp-IsAntisymmetric}
 use Rattle.std.specs.Ordering.{nat_cmp, eq_by_cmp}
+use Rattle.std.specs.Result.{OnOk, OnErr}
 use Rattle.vh_files.specs.Store.{Held, told, HasNow, Grows, GrowsInPart, SameElsewhere}
 use Rattle.vh_num.specs.Frames.{Frame, frame_at, frames_of}
 use Rattle.vh_num.proofs.InPlace.{law_frame_has_samples, law_frames_are_in_place}
 use Rattle.vh_wav.specs.declared.head.Head.{Head}
 use Rattle.vh_wav.specs.Frames.{frame_in, frames_in}
-use Rattle.vh_wav.specs.Laws.{HasChannels}
-use Rattle.vh_wav.specs.Text.{head_text, frame_text, frames_text}
+use Rattle.vh_wav.specs.Laws.{HasChannels, read_back}
+use Rattle.vh_wav.specs.Text.{head_text, frame_text, frames_text, wav_text}
 use Rattle.vh_wav.proofs.InMemory.{left_after}
-use Rattle.vh_link.specs.Outputs.{HasCut}
+use Rattle.vh_wav.proofs.Held.{law_holds_its_frames}
+use Rattle.vh_wav.proofs.ReadBack.{law_written_is_read as read_text}
+use Rattle.vh_link.specs.Outputs.{HasCut, HasPart, pad_text}
+use Rattle.vh_link.specs.Laws.{WrittenIsRead, written_head}
 use Rattle.vh_link.specs.Link.{HasLeft, AreIn, AreWritten, Fixed}
 
 -- ---- what is left to read
@@ -132,3 +136,75 @@ started_now complete still held now output head bits was room pushed started cut
       wide = λ place d within. absurd (omega (arith, within));
       text = whole still (told now output) bits (front ++ []) cut (subst P (sym (append-nil front)) (subst S (sym same) has));
     })
+
+-- ---- a file that was ended
+text_is : (channels rate bits room : ℕ) (frames : List Frame) → length frames ≡ room
+    → (head_text channels rate bits room ++ frames_text bits frames) ++ pad_text channels bits room ≡ wav_text channels rate bits frames
+unfolding wav_text
+text_is channels rate bits room frames long =
+    append_assoc (head_text channels rate bits room) (frames_text bits frames) (pad_text channels bits room)
+    ∙ ap (λ n. head_text channels rate bits n ++ (frames_text bits frames ++ pad_text channels bits n)) (sym long)
+
+module _ (complete still : Bool) (held now : Held) (output : List ℕ) (head : Head) (bits room pushed : ℕ) (cut frames : List Frame) (all : pushed ≡ room) (uncut : cut ≡ []) (same : still ≡ complete) where
+  written : (started : Bool) → started ≡ true → AreWritten started (AreIn complete held output head bits room pushed cut frames) frames → AreIn complete held output head bits room pushed cut frames
+  written false is inside = absurd (false≢true is)
+  written true is inside = inside
+
+  front : List ℕ
+  front = head_text head.channels head.rate bits room ++ frames_text bits frames
+
+  pub ended : (started : Bool) → started ≡ true → AreWritten started (AreIn complete held output head bits room pushed cut frames) frames
+      → Grows complete (told held output) (told now output) (pad_text head.channels bits pushed)
+      → HasNow complete (told now output) (wav_text head.channels head.rate bits frames)
+  unfolding front
+  ended started is inside grown =
+      let are = written started is inside in
+      let P : List ℕ → Type 0 = λ l. HasNow complete (told now output) l in
+      let G : ℕ → Type 0 = λ k. Grows complete (told held output) (told now output) (pad_text head.channels bits k) in
+      subst P (text_is head.channels head.rate bits room frames (are.count ∙ all))
+      (has_more complete complete (told held output) (told now output) front (pad_text head.channels bits room) refl (no_cut complete (told held output) bits front cut uncut are.text) (subst G all grown))
+
+  pub ended_in_part : (started : Bool) → started ≡ true → AreWritten started (AreIn complete held output head bits room pushed cut frames) frames
+      → GrowsInPart complete (told held output) (told now output) (pad_text head.channels bits pushed)
+      → HasPart complete (told now output) (wav_text head.channels head.rate bits frames)
+  unfolding front
+  ended_in_part started is inside part =
+      let are = written started is inside in
+      let n : ℕ = part.0 in
+      let pad : List ℕ = pad_text head.channels bits room in
+      let G : ℕ → Type 0 = λ k. (n < length (pad_text head.channels bits k)) × Grows complete (told held output) (told now output) (take n (pad_text head.channels bits k)) in
+      let here = subst G all (part.1, part.2) in
+      let below : n < length pad = here.0 in
+      let P : List ℕ → Type 0 = λ l. HasPart complete (told now output) l in
+      let Q : List ℕ → Type 0 = λ l. HasNow complete (told now output) l in
+      let sum = length-append front pad in
+      subst P (text_is head.channels head.rate bits room frames (are.count ∙ all)) (
+        length front + n,
+        omega (arith, sum, below),
+        subst Q (sym (take-append-add front pad n))
+            (has_more complete complete (told held output) (told now output) front (take n pad) refl (no_cut complete (told held output) bits front cut uncut are.text) here.1),
+      )
+
+-- what a call's answer tells leads to more
+pub on_ok_along : {T E : Type 0} (result : Result T E) (P Q : Type 0) → (P → Q) → OnOk result P → OnOk result Q
+on_ok_along (Ok x) P Q f p = f p
+on_ok_along (Err e) P Q f p = tt
+
+pub on_err_along : {T E : Type 0} (result : Result T E) (P Q : Type 0) → (P → Q) → OnErr result P → OnErr result Q
+on_err_along (Ok x) P Q f p = tt
+on_err_along (Err e) P Q f p = f p
+
+-- ---- a file that was written, and is read
+pub law_written_is_read : WrittenIsRead
+law_written_is_read held name other channels rate bits frames is has apart =
+    let head = written_head channels rate bits frames in
+    let bytes = wav_text channels rate bits frames in
+    let read = read_text channels rate bits frames is in (
+      read.head_is,
+      record {
+        apart = apart;
+        bytes = bytes;
+        has = has;
+        left = sym ((law_holds_its_frames bytes head read.head_is).1 (map (map (read_back bits)) frames) read);
+      },
+    )

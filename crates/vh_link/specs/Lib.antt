@@ -1,2 +1,4 @@
 pub mod Outputs
+pub mod Buffers
 pub mod Link
+pub mod Laws

@@ -2,7 +2,10 @@
 //! grows block by block.
 #![tactic(auto)]
 
+mod buffers;
+pub mod laws;
 mod link;
 mod output;
 
+pub use buffers::Buffers;
 pub use link::WavLink;

@@ -1,17 +1,17 @@
 //! The link.
 
-ghost use Rattle.std.specs.Prelude.{◌≡◌, ◌≤◌, ◌<◌, ◌^◌, ◌⊎◌, true, false, List, [], IsSome, OnOk, OnErr, IfOk};
+ghost use Rattle.std.specs.Prelude.{◌≡◌, ◌≤◌, ◌<◌, ◌^◌, ◌⊎◌, true, false, List, [], IsSome, OnOk, OnErr};
 ghost use Rattle.std.specs.String.{string_bytes};
 ghost use Rattle.vh_files.specs.Causes.{Rose};
 ghost use Rattle.vh_files.specs.Store.{told, HasNow, SameElsewhere};
 ghost use Rattle.vh_num.specs.Frames.{Frame};
 ghost use Rattle.vh_wav.specs.Heads.{IsHead, frames_end};
-ghost use Rattle.vh_wav.specs.Text.{head_text};
+ghost use Rattle.vh_wav.specs.Text.{head_text, wav_text};
 ghost use Rattle.vh_link.specs.Outputs.{HasPart};
 ghost use Rattle.vh_link.specs.Link.{Link, Reads, Wrote};
 
-use crate::output::{keep, write_frames, write_head};
-use std::alloc::{AllocError, Global};
+use crate::buffers::Buffers;
+use crate::output::{keep, write_frames, write_head, write_pad};
 use std::marker::Model;
 use vh_files::{Failed, Files};
 use vh_wav::{Frames, Head, read_frames};
@@ -46,18 +46,18 @@ impl<'a, F: Files> Model for WavLink<'a, F> {
     ghost Value = { Link F };
 
     ghost view = { λ l. record {
-        store = l.files.now;
-        loan = l.files.ghost_name;
-        input = string_bytes l.input;
-        head = l.head;
-        output = string_bytes l.output;
-        bits = l.bits;
-        max = l.max;
-        at = l.at;
-        started = l.started;
-        room = l.room;
-        pushed = l.pushed;
-        cut = frames_of l.head.channels (take l.kept l.cut.items)
+      store = l.files.now;
+      loan = l.files.ghost_name;
+      input = string_bytes l.input;
+      head = l.head;
+      output = string_bytes l.output;
+      bits = l.bits;
+      max = l.max;
+      at = l.at;
+      started = l.started;
+      room = l.room;
+      pushed = l.pushed;
+      cut = frames_of l.head.channels (take l.kept l.cut.items);
     } };
 
     ghost invariant = { λ l. IsLink (F.complete l.files.now) (F.held l.files.now) (string_bytes l.input) (string_bytes l.output) l.head l.bits l.max l.at l.started l.room l.pushed
@@ -65,41 +65,43 @@ impl<'a, F: Files> Model for WavLink<'a, F> {
 }
 
 impl<'a, F: Files> WavLink<'a, F> {
-    /// A link between an input with this head and an output of this many bits a sample, 16 or 24, in calls of at most
-    /// `max` frames, 1 to 8192. It takes all memory that the link needs, and doesn't touch the store.
+    /// A link between an input with this head and an output of this many bits a sample, 16 or 24. It doesn't touch the
+    /// store.
     pub fn new(
-        alloc: Global,
         files: &'a mut F,
         input: String,
         head: Head,
         output: String,
         bits: u16,
-        max: u32,
-    ) -> Result<WavLink<'a, F>, AllocError>
+        buffers: Buffers,
+    ) -> WavLink<'a, F>
         requires head { IsHead head }
         requires fits { frames_end head < 2 ^ 64 }
         requires bits { (bits ≡ 16) ⊎ (bits ≡ 24) }
-        requires some { 1 ≤ max }
-        requires most { max ≤ 8192 }
+        requires buffers { buffers.channels ≡ head.channels }
         requires there { F.complete files.old ≡ true → IsSome (told (F.held files.old) (string_bytes input)) }
-        ensures link { IfOk result (λ link. link ≡ record {
-            store = files.old;
-            loan = files.entry.ghost_name;
-            input = string_bytes input;
-            head = head;
-            output = string_bytes output;
-            bits = bits;
-            max = max;
-            at = 0;
-            started = false;
-            room = 0;
-            pushed = 0;
-            cut = []
-        }) }
+        ensures { result ≡ record {
+          store = files.old;
+          loan = files.entry.ghost_name;
+          input = string_bytes input;
+          head = head;
+          output = string_bytes output;
+          bits = bits;
+          max = buffers.max;
+          at = 0;
+          started = false;
+          room = 0;
+          pushed = 0;
+          cut = [];
+        } }
     {
-        let bytes = vec![in alloc; 0u8; 6 * max as usize]?;
-        let cut = vec![in alloc; 0i32; usize::from(head.channels) * max as usize]?;
-        Ok(WavLink {
+        let Buffers {
+            channels: _,
+            max,
+            bytes,
+            cut,
+        } = buffers;
+        WavLink {
             files,
             input,
             head,
@@ -113,7 +115,7 @@ impl<'a, F: Files> WavLink<'a, F> {
             bytes,
             cut,
             kept: 0,
-        })
+        }
     }
 
     /// Creates the output and adds its head for so many frames, at most 2^24, which may then be added.
@@ -152,6 +154,35 @@ impl<'a, F: Files> WavLink<'a, F> {
                 Err(failed)
             }
         }
+    }
+
+    /// Ends the output, to which all of its frames were added: adds the byte that makes them even. The link is then as
+    /// before its start, but for what was read.
+    pub fn finish(&mut self) -> Result<(), Failed>
+        requires started { self.old.started ≡ true }
+        requires all { self.old.pushed ≡ self.old.room }
+        requires whole { self.old.cut ≡ [] }
+        ensures file { (frames : List Frame) → Wrote F.complete F.held self.old frames → OnOk result (HasNow (F.complete self.old.store) (told (F.held self.new.store) self.old.output) (wav_text self.old.head.channels self.old.head.rate self.old.bits frames)) }
+        ensures part { (frames : List Frame) → Wrote F.complete F.held self.old frames → OnErr result (HasPart (F.complete self.old.store) (told (F.held self.new.store) self.old.output) (wav_text self.old.head.channels self.old.head.rate self.old.bits frames)) }
+        ensures others { SameElsewhere self.old.output (F.held self.old.store) (F.held self.new.store) }
+        ensures ended { self.new ≡ record self.old { store = self.new.store; started = false; room = 0; pushed = 0 } }
+        ensures reads { (input : List Frame) → Reads F.held self.old input → Reads F.held self.new input }
+        ensures failed { OnErr result (Rose (F.write_faults self.old.store) (F.write_faults self.new.store)) }
+        ensures later { F.write_faults self.old.store ≤ F.write_faults self.new.store }
+        ensures complete { F.complete self.new.store ≡ F.complete self.old.store }
+        ensures read_faults { F.read_faults self.new.store ≡ F.read_faults self.old.store }
+    {
+        let frames = self.pushed;
+        self.started = false;
+        self.room = 0;
+        self.pushed = 0;
+        write_pad(
+            &mut *self.files,
+            self.output.as_str(),
+            self.head.channels,
+            self.bits,
+            frames,
+        )
     }
 
     /// Gives the store back.
