@@ -1,5 +1,5 @@
 use crate::runs::{LIVE, live, replay, store};
-use crate::watched::wait_for;
+use crate::waiting::wait_for;
 use std::alloc::{AllocError, Global};
 use std::sync::atomic::{AtomicU64, Ordering};
 use std::test::Fail;

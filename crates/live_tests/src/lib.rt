@@ -4,8 +4,6 @@
 #[cfg(test)]
 mod faults;
 #[cfg(test)]
-mod follows;
-#[cfg(test)]
 mod gates;
 #[cfg(test)]
 mod memory;
@@ -14,6 +12,4 @@ mod rows;
 #[cfg(test)]
 mod runs;
 #[cfg(test)]
-mod stops;
-#[cfg(test)]
-mod watched;
+mod waiting;
