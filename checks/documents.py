@@ -15,7 +15,7 @@ from tally import Tally
 DOCUMENTS = [TOP / "README.md", TOP / "CONTRIBUTING.md", TOP / "examples/README.md", *sorted((TOP / "docs").glob("*.md"))]
 MANUAL = TOP / "docs/vsthost.1"
 PARTS = {"Session": "session", "The journal": "journal", "Input": "wav", "Preset file": "preset"}  # of the formats, with kinds
-TOOLS = {"./vsthost", "vsthost", "cat", "cmp", "ffmpeg", "printf", "sox", "soxi", "tail"}  # what is run of what documents show
+TOOLS = {"./vsthost", "vsthost", "cat", "cmp", "ffmpeg", "head", "printf", "sed", "sox", "soxi", "tail"}  # what is run of what documents show
 PATHS = r"(?<![\w/.-])((?:bench|checks|crates|docs|examples|tools)/[\w./-]*\w)"
 
 
