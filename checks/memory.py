@@ -1,7 +1,8 @@
 #!/usr/bin/env python3
 """Looks at the text of the library crates for memory that is taken unsaid: a function that is handed no allocator and whose
 result has no want of memory names no allocator and calls neither `push` nor `from_slice`. All other calls of the library that
-take memory are handed an allocator. This is a test of the text and no proof; what it lets pass is listed, with the reason."""
+take memory are handed an allocator. This is a test of the text and no proof: each function's own text is looked at,
+so a callee whose want of memory is passed over isn't found. What it lets pass is listed, with the reason."""
 import re
 import sys
 from pathlib import Path
